@@ -1,18 +1,16 @@
 -- The nonzero brackets among the first triples in lexicographic order.
 --
--- Main definitions: nonzero_below, IsMatching
--- Main results: below_all, below_more, more_nonzero, more_zero, below_length, below_take, next_nonzero, more_length,
--- bracket_triples, next_within, next_most, next_fits, one_matched, none_matched, first_other, all_matched
+-- Main definitions: nonzero_below, IsPaired
+-- Main results: below_all, below_more, more_nonzero, more_zero, below_length, next_nonzero, more_length,
+-- bracket_triples, first_unpaired
 use Rattle.std.specs.Prelude.{ℕ, ◌≡◌, ◌+◌, ◌<◌, ◌≤◌, true, false, List, [], ◌∷◌, ◌++◌, length, map, filter, cond, take}
-use Rattle.std.specs.Prelude.{drop, slice_get, Some, All}
-use Rattle.std.proofs.Common.{refl, sym, ◌∙◌, ap, arith, Fits}
-use Rattle.std.proofs.Math.ListN.{get_or}
-use mir.Syntax.{w32}
-use Rattle.std.proofs.lemmas.List.{take_all, length-append, take-append-drop, take_more, map-append, append-nil}
-use Rattle.std.proofs.lemmas.Option.{slice_get-get_or, same_Some}
+use Rattle.std.specs.Prelude.{drop, slice_get, Option, Some, None, All, MatchOption, IfSome, IfNone}
+use Rattle.std.specs.List.{AllWithin, HoldsAt, zip}
+use Rattle.std.proofs.Common.{zero, suc, ◌≢◌, refl, sym, ◌∙◌, ap, arith}
+use Rattle.std.proofs.lemmas.List.{take_all, length-append, take-append-drop, append-nil}
+use Rattle.std.proofs.lemmas.Slice.Zip.{length-zip}
+use Rattle.std.proofs.lemmas.Option.{same_Some}
 use Rattle.std.proofs.lemmas.List.Elements.{filter_more, filter-append, All-filter, All-from_get_or}
-use Rattle.std.proofs.Math.Seq.{take-append_seam}
-use Rattle.om_signs.specs.declared.limits.TheConstants.{MAX_ENTRIES}
 use Rattle.om_subsets.specs.Subsets.{all_subsets, choose, subset_at, IsTriple}
 use Rattle.om_subsets.proofs.Order.{length-subsets_from}
 use Rattle.om_subsets.proofs.Triples.{triple_of_place}
@@ -65,10 +63,6 @@ pub below_length : (m : SignMap) (k : ℕ) → length (nonzero_below m k) ≤ le
 below_length m k = let e = ap length (below_split m k) ∙ length-append (nonzero_below m k) (rest_from m k) in
     omega (arith, e)
 
-pub below_take : (m : SignMap) (k : ℕ) → take (length (nonzero_below m k)) (nonzero_brackets m) ≡ nonzero_below m k
-below_take m k = ap (take (length (nonzero_below m k))) (below_split m k) ∙ take-append_seam (nonzero_below m k)
-    (rest_from m k)
-
 -- the next nonzero bracket is the triple at the place k
 pub next_nonzero : (m : SignMap) (k : ℕ) (b : List ℕ) → k < choose m.elements 3 → b ≡ subset_at m.elements 3 k
     → is_nonzero (chi_of m b) ≡ true → slice_get (nonzero_brackets m) (length (nonzero_below m k)) ≡ Some b
@@ -94,61 +88,56 @@ bracket_triples m =
 
 -- ---- weights against the nonzero brackets
 
--- the first weights are those of the nonzero brackets among the first k triples
-pub record IsMatching (m : SignMap) (ws : List Weight) (i k : ℕ) : Type 0 where
-  pub counts : i ≡ length (nonzero_below m k)
-  pub same : map bracket_of (take i ws) ≡ nonzero_below m k
+-- a weight is given to the bracket that it is paired with
+abbrev pub IsPaired : List ℕ × Weight → Type 0
+IsPaired p = p.0 ≡ bracket_of p.1
 
-pub next_within : (m : SignMap) (ws : List Weight) (next k : ℕ) (b : List ℕ) → k < choose m.elements 3
-    → b ≡ subset_at m.elements 3 k → is_nonzero (chi_of m b) ≡ true → length ws ≡ length (nonzero_brackets m)
-    → IsMatching m ws next k → next < length ws
-next_within m ws next k b l e n s h = let f = more_length m k b l e n in let g = below_length m (k + 1) in let q =
-    h.counts in omega (arith, f, g)
+paired_first : (bs : List (List ℕ)) (ws : List Weight) (k : ℕ) → k ≤ length (zip bs ws)
+    → AllWithin IsPaired (zip bs ws) 0 k → map bracket_of (take k ws) ≡ take k bs
+paired_first bs ws zero l h = refl
+paired_first [] ws (suc k) l h = absurd (omega arith)
+paired_first (b ∷ bs) [] (suc k) l h = absurd (omega arith)
+paired_first (b ∷ bs) (w ∷ ws) (suc k) l h =
+    let here : b ≡ bracket_of w = h 0 (b, w) (omega arith) (omega arith) in
+    ap (λ c. c ∷ map bracket_of (take k ws)) (sym here)
+    ∙ ap (λ cs. b ∷ cs)
+    (paired_first bs ws k (omega arith) (λ j d low high. h (suc j) d (omega arith) (omega arith)))
 
--- the weights that are matched are at most all of them
-pub next_most : (m : SignMap) (ws : List Weight) (next k : ℕ) → length ws ≡ length (nonzero_brackets m)
-    → IsMatching m ws next k → next ≤ length ws
-next_most m ws next k s h = let g = below_length m k in let q = h.counts in omega (arith, g)
+pub all_paired : (m : SignMap) (ws : List Weight) → length ws ≡ length (nonzero_brackets m)
+    → AllWithin IsPaired (zip (nonzero_brackets m) ws) 0 (length (zip (nonzero_brackets m) ws)) → AreOfBrackets m ws
+all_paired m ws e h =
+    let n = length-zip (nonzero_brackets m) ws in
+    ap (map bracket_of) (sym (take_all (length (zip (nonzero_brackets m) ws)) ws (omega (arith, n, e))))
+    ∙ paired_first (nonzero_brackets m) ws (length (zip (nonzero_brackets m) ws)) (omega arith) h
+    ∙ take_all (length (zip (nonzero_brackets m) ws)) (nonzero_brackets m) (omega (arith, n, e))
 
--- the number of the next weight, counted from 1, fits 32 bits
-pub next_fits : (m : SignMap) (ws : List Weight) (next k : ℕ) → length ws ≡ length (nonzero_brackets m)
-    → length ws ≤ MAX_ENTRIES → IsMatching m ws next k → Fits w32 (next + 1)
-next_fits m ws next k s few h = let l = next_most m ws next k s h in omega arith
+pub first_other : (m : SignMap) (ws : List Weight) (i : ℕ) → i < length (zip (nonzero_brackets m) ws)
+    → HoldsAt (λ p. IsPaired p → ⊥) (zip (nonzero_brackets m) ws) i
+    → AllWithin IsPaired (zip (nonzero_brackets m) ws) 0 i → IsFirstOtherBracket m ws (i + 1)
+first_other m ws i l other before =
+    let h = at (nonzero_brackets m) ws i l other in
+    record {
+      index = i;
+      weight = h.0;
+      counts = refl;
+      here = h.1;
+      other = h.2;
+      earlier = paired_first (nonzero_brackets m) ws i (omega arith) before;
+    }
+  where
+    at : (bs : List (List ℕ)) (vs : List Weight) (j : ℕ) → j < length (zip bs vs)
+        → HoldsAt (λ p. IsPaired p → ⊥) (zip bs vs) j
+        → (w : Weight) × (slice_get vs j ≡ Some w) × (slice_get bs j ≢ Some (bracket_of w))
+    at [] vs j l h = absurd (omega arith)
+    at (b ∷ bs) [] j l h = absurd (omega arith)
+    at (b ∷ bs) (w ∷ vs) zero l h = (w, refl, λ e. h (b, w) (same_Some b (bracket_of w) e))
+    at (b ∷ bs) (w ∷ vs) (suc j) l h = at bs vs j (omega arith) h
 
-pub one_matched : (m : SignMap) (ws : List Weight) (next k : ℕ) (d : Weight) (b : List ℕ) → k < choose m.elements 3
-    → b ≡ subset_at m.elements 3 k → is_nonzero (chi_of m b) ≡ true → next < length ws
-    → b ≡ bracket_of (get_or ws next d) → IsMatching m ws next k → IsMatching m ws (next + 1) (k + 1)
-one_matched m ws next k d b l e n w q h = record {
-  counts = ap (λ j. j + 1) h.counts ∙ sym (more_length m k b l e n);
-  same = ap (map bracket_of) (take_more ws next d w) ∙ map-append bracket_of (take next ws) (get_or ws next d ∷ [])
-      ∙ ap (λ xs. xs ++ bracket_of (get_or ws next d) ∷ []) h.same ∙ ap (λ c. nonzero_below m k ++ c ∷ []) (sym q)
-      ∙ sym (more_nonzero m k b l e n);
-}
-
-pub none_matched : (m : SignMap) (ws : List Weight) (next k : ℕ) (b : List ℕ) → k < choose m.elements 3
-    → b ≡ subset_at m.elements 3 k → is_nonzero (chi_of m b) ≡ false → IsMatching m ws next k
-    → IsMatching m ws next (k + 1)
-none_matched m ws next k b l e z h = record {
-  counts = h.counts ∙ ap length (sym (more_zero m k b l e z));
-  same = h.same ∙ sym (more_zero m k b l e z);
-}
-
-pub first_other : (m : SignMap) (ws : List Weight) (next k : ℕ) (d : Weight) (b : List ℕ) → k < choose m.elements 3
-    → b ≡ subset_at m.elements 3 k → is_nonzero (chi_of m b) ≡ true → next < length ws
-    → (b ≡ bracket_of (get_or ws next d) → ⊥) → IsMatching m ws next k → IsFirstOtherBracket m ws (next + 1)
-first_other m ws next k d b l e n w q h = record {
-  index = next;
-  weight = get_or ws next d;
-  counts = refl;
-  here = slice_get-get_or ws next d w;
-  other = λ o. q
-      (same_Some b (bracket_of (get_or ws next d))
-      (sym (next_nonzero m k b l e n) ∙ ap (slice_get (nonzero_brackets m)) (sym h.counts) ∙ o));
-  earlier = h.same ∙ sym (below_take m k) ∙ ap (λ j. take j (nonzero_brackets m)) (sym h.counts);
-}
-
-pub all_matched : (m : SignMap) (ws : List Weight) (next k : ℕ) → choose m.elements 3 ≤ k
-    → length ws ≡ length (nonzero_brackets m) → IsMatching m ws next k → AreOfBrackets m ws
-all_matched m ws next k l s h =
-    let e : length ws ≤ next = (let q = h.counts in let f = ap length (below_all m k l) in omega (arith, f)) in
-    ap (map bracket_of) (sym (take_all next ws e)) ∙ h.same ∙ below_all m k l
+-- what `position` gives of the pairs
+pub first_unpaired : (m : SignMap) (ws : List Weight) (o : Option ℕ) → length ws ≡ length (nonzero_brackets m)
+    → MatchOption o (AllWithin IsPaired (zip (nonzero_brackets m) ws) 0 (length (zip (nonzero_brackets m) ws)))
+    (λ i. (i < length (zip (nonzero_brackets m) ws)) × HoldsAt (λ p. IsPaired p → ⊥) (zip (nonzero_brackets m) ws) i
+    × AllWithin IsPaired (zip (nonzero_brackets m) ws) 0 i)
+    → IfNone o (AreOfBrackets m ws) × IfSome o (λ i. IsFirstOtherBracket m ws (i + 1))
+first_unpaired m ws None e h = (all_paired m ws e h, tt)
+first_unpaired m ws (Some i) e h = (tt, first_other m ws i h.0 h.1 h.2)

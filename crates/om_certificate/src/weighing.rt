@@ -1,7 +1,7 @@
 //! The check whether a list of numbers are weights.
 
-ghost use Rattle.std.specs.Prelude.{◌≡◌, ◌≤◌, ◌↔◌, ◌+ℤ◌, pos, slice_index_or, length, All, IfErr, OnOk, IfSome, IfNone};
-ghost use Rattle.std.specs.Prelude.{IsTrue};
+ghost use Rattle.std.specs.Prelude.{◌≡◌, ◌≤◌, ◌<◌, ◌+◌, ◌↔◌, ◌+ℤ◌, pos, slice_index_or, length, All, IsTrue};
+ghost use Rattle.std.specs.Prelude.{IfErr, OnOk, IfSome, IfNone};
 ghost use Rattle.om_subsets.specs.Subsets.{choose, rank_of, IsSubsetFrom};
 ghost use Rattle.om_chirotope.specs.Map.{chi_of};
 ghost use Rattle.om_grassmann.specs.declared.statement.Statement.{Statement};
@@ -37,8 +37,10 @@ pub fn check_weights(chi: &Chirotope, weights: &[Weight]) -> Result<(), CertRefu
             given: weights.len() as u32,
         });
     }
-    if let Some(entry) = first_other_bracket(chi, weights) {
-        return Err(CertRefused::Bracket { entry });
+    if let Some(place) = first_other_bracket(chi, weights) {
+        return Err(CertRefused::Bracket {
+            entry: place as u32 + 1,
+        });
     }
     match first_unmet(chi, weights) {
         None => Ok(()),
@@ -48,20 +50,12 @@ pub fn check_weights(chi: &Chirotope, weights: &[Weight]) -> Result<(), CertRefu
 
 /// The number of nonzero brackets.
 fn count_nonzero(chi: &Chirotope) -> u32
-    requires rank { chi.now.rank ≡ 3 }
-    requires part { 3 ≤ chi.now.elements }
+    requires { chi.now.rank ≡ 3 }
     ensures { result ≡ length (nonzero_brackets chi.now) }
 {
-    let n = chi.elements();
-    let mut count = 0;
-    let mut bracket = Subset::first(3, n);
-    for _place in 0..Subset::choose(n, 3) {
-        if is_nonzero(chi, bracket) {
-            count += 1;
-        }
-        bracket = bracket.following();
-    }
-    count
+    Subset::all(3, chi.elements())
+        .filter(|bracket| is_nonzero(chi, *bracket))
+        .count() as u32
 }
 
 /// Whether a bracket of a chirotope of rank 3 isn't 0. The bracket is a set of three elements of the chirotope. The
@@ -78,28 +72,18 @@ pub fn is_nonzero(chi: &Chirotope, bracket: Subset) -> bool
     }
 }
 
-/// The number, from 1, of the first weight that isn't given to the nonzero bracket at its place, or None.
-fn first_other_bracket(chi: &Chirotope, weights: &[Weight]) -> Option<u32>
+/// The place, from 0, of the first weight that isn't given to the nonzero bracket at its place, or None.
+fn first_other_bracket(chi: &Chirotope, weights: &[Weight]) -> Option<usize>
     requires rank { chi.now.rank ≡ 3 }
-    requires part { 3 ≤ chi.now.elements }
     requires number { length weights.now ≡ length (nonzero_brackets chi.now) }
-    requires few { length weights.now ≤ MAX_ENTRIES }
     ensures none { IfNone result (AreOfBrackets chi.now weights.now) }
-    ensures first { IfSome result (λ k. IsFirstOtherBracket chi.now weights.now k) }
+    ensures small { IfSome result (λ k. k < length weights.now) }
+    ensures first { IfSome result (λ k. IsFirstOtherBracket chi.now weights.now (k + 1)) }
 {
-    let n = chi.elements();
-    let mut next = 0usize;
-    let mut bracket = Subset::first(3, n);
-    for _place in 0..Subset::choose(n, 3) {
-        if is_nonzero(chi, bracket) {
-            if !is_weight_of(weights[next], bracket) {
-                return Some(next as u32 + 1);
-            }
-            next += 1;
-        }
-        bracket = bracket.following();
-    }
-    None
+    Subset::all(3, chi.elements())
+        .filter(|bracket| is_nonzero(chi, *bracket))
+        .zip(weights.iter().copied())
+        .position(|(bracket, weight)| !is_weight_of(weight, bracket))
 }
 
 /// Whether a weight is given to this bracket.

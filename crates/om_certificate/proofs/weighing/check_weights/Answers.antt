@@ -1,4 +1,4 @@
-use Rattle.std.proofs.Common.{◌∙◌}
+use Rattle.std.proofs.Common.{◌+◌, ◌∙◌}
 use Rattle.om_certificate.specs.Refusals.{bracket, weight_fails}
 use Rattle.om_certificate.proofs.Reasons.{weights_refused}
 use Rattle.om_certificate.proofs.weighing.check_weights.Goals as goal
@@ -10,7 +10,7 @@ returns-then-weights-wanted-clause-refused c =
 
 pub returns-in-Some-clause-refused : goal.returns-in-Some-clause-refused
 returns-in-Some-clause-refused c =
-    bracket c.in-Some.entry (c.if-weights-wanted.false ∙ c.count_nonzero-wanted.ensures) c.in-Some.ensures.first
+    bracket (c.in-Some.place + 1) (c.if-weights-wanted.false ∙ c.count_nonzero-wanted.ensures) c.in-Some.ensures.first
 
 pub returns-in-Some-first_unmet-clause-refused : goal.returns-in-Some-first_unmet-clause-refused
 returns-in-Some-first_unmet-clause-refused c =

@@ -1,118 +1,77 @@
-use Rattle.std.proofs.Common.{◌≡◌, ◌+◌, ◌<◌, ◌≤◌, ◌∙◌, refl, ap, sym, subst, arith, pos}
-use Rattle.om_certificate.specs.declared.weight.Weight.{Weight}
-use Rattle.std.proofs.lemmas.Bool.{false≢true}
-use Rattle.om_subsets.specs.Subsets.{choose, IsSubsetFrom}
-use Rattle.om_subsets.proofs.Walks.{IsAt, at_first, at_next, list_at}
-use Rattle.om_certificate.proofs.NonzeroBrackets.{IsMatching, next_within, next_fits, one_matched, none_matched}
-use Rattle.om_certificate.proofs.NonzeroBrackets.{first_other, all_matched}
+use Rattle.std.proofs.Common.{◌<◌, ◌∙◌, ap, refl, rules, tests, length}
+use Rattle.std.specs.Prelude.{MatchOption, zip}
+use Rattle.std.specs.List.{AllWithin, HoldsAt}
+use Rattle.std.proofs.lemmas.Iterator.{YieldsList-from_slice, YieldsList-from_zip, IsFirst-from_position}
+use Rattle.std.proofs.lemmas.Iterator.Adapters.{serves_from_places}
+use Rattle.std.proofs.lemmas.Iterator.Consumers.{YieldsList-from_filter, YieldsList-from_copied, YieldsList-at}
+use Rattle.std.specs.Iterator.Adapters.{filter_source}
+use Rattle.std.specs.Slice.Iter.{iter_rest}
+use Rattle.om_subsets.proofs.SetChains.{all_sets_of, callable_at_sets, gives_all_subsets, gives_all_sets, set_of_pair}
+use Rattle.om_chirotope.specs.Map.{chi_of}
+use Rattle.om_certificate.specs.Weights.{is_nonzero, nonzero_brackets}
+use Rattle.om_certificate.proofs.NonzeroBrackets.{IsPaired, first_unpaired}
 use Rattle.om_certificate.proofs.weighing.first_other_bracket.Goals as goal
-use Rattle.om_certificate.proofs.weighing.first_other_bracket.Goals.{then-is_nonzero+else-not-is_weight_of}
-use Rattle.om_certificate.proofs.weighing.first_other_bracket.Goals.{else-is_nonzero}
+use Rattle.om_certificate.proofs.weighing.first_other_bracket.Goals.{After-position}
 
-pub loop-place-init : goal.loop-place-init
-loop-place-init c = record {
-  matching = record { counts = refl; same = refl };
-  at = subst (λ n. IsAt n 3 0 c.first-bracket.result) c.elements-n.ensures.value
-      (at_first c.elements-n.result 3 c.first-bracket.result c.first-bracket.ensures.n c.first-bracket.ensures.size
-      c.first-bracket.ensures.lawful c.first-bracket.ensures.place);
-}
+pub position-requires-clause-can : goal.position-requires-clause-can
+position-requires-clause-can c = (
+  (
+    tt,
+    tt,
+    callable_at_sets c.args.chi.now.elements 3
+        (all_sets_of {r = 3} {q = 3}
+        (ap (λ z. filter_source z) c.zip.ensures.first ∙ c.filter.ensures.source ∙ c.all.ensures.sets)
+        c.elements.ensures.value refl) (λ x q k. search (rules, tests))
+        (λ x set. let n = set.n_is in let s = set.size in search rules),
+  ),
+  tt,
+)
 
-pub bounds-weights-next : goal.bounds-weights-next
-bounds-weights-next c =
-    let end : c.choose-place-end.result ≡ choose c.args.chi.now.elements 3 = c.choose-place-end.ensures.value
-    ∙ ap (λ n. choose n 3) c.elements-n.ensures.value in
-    let below : c.loop-place._place < choose c.args.chi.now.elements 3 = omega arith in
-    next_within c.args.chi.now c.args.weights.now c.loop-place.next c.loop-place._place c.loop-place.bracket.elements
-    below
-    (list_at c.args.chi.now.elements 3 c.loop-place._place c.loop-place.bracket below c.loop-place.invariant.at)
-    (sym c.is_nonzero.ensures ∙ c.if-is_nonzero.true) c.requires.number c.loop-place.invariant.matching
+pub position-requires-clause-callable : goal.position-requires-clause-callable
+position-requires-clause-callable c =
+    serves_from_places
+    (YieldsList-from_zip
+    (YieldsList-at c.zip.ensures.first
+    (YieldsList-from_filter _ (λ b. is_nonzero (chi_of c.args.chi.now b.elements))
+    (gives_all_sets c.args.chi.now.elements 3
+    (all_sets_of {r = 3} {q = 3} (c.filter.ensures.source ∙ c.all.ensures.sets) c.elements.ensures.value refl))
+    c.filter.ensures.closure (λ x b q k. search (rules, tests))))
+    (YieldsList-at c.zip.ensures.second
+    (YieldsList-from_copied
+    (YieldsList-from_slice c.args.weights.now
+    (ap (λ i. iter_rest i) c.copied.ensures.source ∙ c.iter.ensures.rest)))))
+    (λ x q k. search (rules, tests))
+    (λ x k l e.
+    let set =
+    set_of_pair c.args.chi.now.elements 3 (λ b. is_nonzero (chi_of c.args.chi.now b.elements)) c.args.weights.now k x
+    l e in
+    let n = set.n_is in let s = set.size in let h = set.list in search rules)
 
-abbrev no_weight : Weight
-no_weight = record { a = 0; b = 0; c = 0; value = pos 0 }
-
-pub returns-then-not-is_weight_of-clause-first : goal.returns-then-not-is_weight_of-clause-first
-returns-then-not-is_weight_of-clause-first c =
-    let end : c.choose-place-end.result ≡ choose c.args.chi.now.elements 3 = c.choose-place-end.ensures.value
-    ∙ ap (λ n. choose n 3) c.elements-n.ensures.value in
-    let below : c.loop-place._place < choose c.args.chi.now.elements 3 = omega arith in
-    let here = list_at c.args.chi.now.elements 3 c.loop-place._place c.loop-place.bracket below
-    c.loop-place.invariant.at in
-    let nonzero = sym c.is_nonzero.ensures ∙ c.if-is_nonzero.true in
-    first_other c.args.chi.now c.args.weights.now c.loop-place.next c.loop-place._place no_weight
-    c.loop-place.bracket.elements below here nonzero
-    (next_within c.args.chi.now c.args.weights.now c.loop-place.next c.loop-place._place c.loop-place.bracket.elements
-    below here nonzero c.requires.number c.loop-place.invariant.matching)
-    (λ e. false≢true (sym c.if-not-is_weight_of.true ∙ c.is_weight_of.ensures.1 e)) c.loop-place.invariant.matching
-
-pub loop-place-preserved : goal.loop-place-preserved
-loop-place-preserved c =
-    let end : c.choose-place-end.result ≡ choose c.args.chi.now.elements 3 = c.choose-place-end.ensures.value
-    ∙ ap (λ n. choose n 3) c.elements-n.ensures.value in
-    let below : c.loop-place._place < choose c.args.chi.now.elements 3 = omega arith in
-    let here = list_at c.args.chi.now.elements 3 c.loop-place._place c.loop-place.bracket below
-    c.loop-place.invariant.at in
-    let matching : IsMatching c.args.chi.now c.args.weights.now c.if-is_nonzero.next (c.loop-place._place + 1) =
-    elim c.if-is_nonzero.branch [
-      | then-is_nonzero+else-not-is_weight_of w ↦
-          let nonzero = sym c.is_nonzero.ensures ∙ w.if-is_nonzero.true in
-          subst (λ k. IsMatching c.args.chi.now c.args.weights.now k (c.loop-place._place + 1)) (sym w.next-is)
-          (one_matched c.args.chi.now c.args.weights.now c.loop-place.next c.loop-place._place no_weight
-          c.loop-place.bracket.elements below here nonzero
-          (next_within c.args.chi.now c.args.weights.now c.loop-place.next c.loop-place._place
-          c.loop-place.bracket.elements below here nonzero c.requires.number c.loop-place.invariant.matching)
-          (w.is_weight_of.ensures.0 w.if-not-is_weight_of.false) c.loop-place.invariant.matching)
-      | else-is_nonzero w ↦
-          subst (λ k. IsMatching c.args.chi.now c.args.weights.now k (c.loop-place._place + 1)) (sym w.next-is)
-          (none_matched c.args.chi.now c.args.weights.now c.loop-place.next c.loop-place._place
-          c.loop-place.bracket.elements below here (sym c.is_nonzero.ensures ∙ w.if-is_nonzero.false)
-          c.loop-place.invariant.matching)
-    ] in record {
-      matching = matching;
-      at = at_next c.args.chi.now.elements 3 c.loop-place._place c.loop-place.bracket c.following-bracket.result
-          c.following-bracket.ensures.n c.following-bracket.ensures.size c.following-bracket.ensures.lawful
-          c.following-bracket.ensures.place below c.loop-place.invariant.at;
-    }
+-- what `position` gives of the nonzero brackets and the weights
+found : (c : After-position) → MatchOption c.position.result
+    (AllWithin IsPaired (zip (nonzero_brackets c.args.chi.now) c.args.weights.now) 0
+    (length (zip (nonzero_brackets c.args.chi.now) c.args.weights.now)))
+    (λ i. (i < length (zip (nonzero_brackets c.args.chi.now) c.args.weights.now))
+    × HoldsAt (λ p. IsPaired p → ⊥) (zip (nonzero_brackets c.args.chi.now) c.args.weights.now) i
+    × AllWithin IsPaired (zip (nonzero_brackets c.args.chi.now) c.args.weights.now) 0 i)
+found c =
+    IsFirst-from_position _ _ c.position.result (λ p. IsPaired p → ⊥) IsPaired c.position.ensures.ran
+    (YieldsList-from_zip
+    (YieldsList-at c.zip.ensures.first
+    (YieldsList-from_filter _ (λ b. is_nonzero (chi_of c.args.chi.now b))
+    (gives_all_subsets c.args.chi.now.elements 3
+    (all_sets_of {r = 3} {q = 3} (c.filter.ensures.source ∙ c.all.ensures.sets) c.elements.ensures.value refl))
+    c.filter.ensures.closure (λ x b q k. search (rules, tests))))
+    (YieldsList-at c.zip.ensures.second
+    (YieldsList-from_copied
+    (YieldsList-from_slice c.args.weights.now
+    (ap (λ i. iter_rest i) c.copied.ensures.source ∙ c.iter.ensures.rest)))))
+    (λ x q k. search (rules, tests)) (λ x q k. search (rules, tests))
 
 pub returns-clause-none : goal.returns-clause-none
 returns-clause-none c =
-    let end : c.choose-place-end.result ≡ choose c.args.chi.now.elements 3 = c.choose-place-end.ensures.value
-    ∙ ap (λ n. choose n 3) c.elements-n.ensures.value in
-    all_matched c.args.chi.now c.args.weights.now c.loop-place.next c.loop-place._place (omega arith) c.requires.number
-    c.loop-place.invariant.matching
+    (first_unpaired c.args.chi.now c.args.weights.now c.position.result c.requires.number (found c)).0
 
-pub first-bracket-requires-clause-part : goal.first-bracket-requires-clause-part
-first-bracket-requires-clause-part c = subst (λ n. 3 ≤ n) (sym c.elements-n.ensures.value) c.requires.part
-
-pub is_nonzero-requires-clause-n : goal.is_nonzero-requires-clause-n
-is_nonzero-requires-clause-n c = c.loop-place.invariant.at.n_is
-
-pub is_nonzero-requires-clause-size : goal.is_nonzero-requires-clause-size
-is_nonzero-requires-clause-size c = c.loop-place.invariant.at.size
-
-pub is_weight_of-requires-clause-size : goal.is_weight_of-requires-clause-size
-is_weight_of-requires-clause-size c = c.loop-place.invariant.at.size
-
-pub is_weight_of-requires-clause-lawful : goal.is_weight_of-requires-clause-lawful
-is_weight_of-requires-clause-lawful c =
-    subst (λ n. IsSubsetFrom 1 n c.loop-place.bracket.elements) (sym c.loop-place.invariant.at.n_is)
-    c.loop-place.invariant.at.list
-
-pub overflow_add-result : goal.overflow_add-result
-overflow_add-result c =
-    next_fits c.args.chi.now c.args.weights.now c.loop-place.next c.loop-place._place c.requires.number c.requires.few
-    c.loop-place.invariant.matching
-
-pub overflow_cast-result : goal.overflow_cast-result
-overflow_cast-result c =
-    let l = next_fits c.args.chi.now c.args.weights.now c.loop-place.next c.loop-place._place c.requires.number
-    c.requires.few c.loop-place.invariant.matching in omega (arith, l)
-
-pub overflow_add-next : goal.overflow_add-next
-overflow_add-next c =
-    let l = next_fits c.args.chi.now c.args.weights.now c.loop-place.next c.loop-place._place c.requires.number
-    c.requires.few c.loop-place.invariant.matching in omega (arith, l)
-
-pub offset_bounds-weights-next : goal.offset_bounds-weights-next
-offset_bounds-weights-next c =
-    let l = next_fits c.args.chi.now c.args.weights.now c.loop-place.next c.loop-place._place c.requires.number
-    c.requires.few c.loop-place.invariant.matching in omega (arith, l)
+pub returns-clause-first : goal.returns-clause-first
+returns-clause-first c =
+    (first_unpaired c.args.chi.now c.args.weights.now c.position.result c.requires.number (found c)).1
