@@ -55,10 +55,8 @@ pub fn normal_by<T: SignRule>(
     ensures { IfOk result (IsNormalFormOf (map_by rank elements (T.rule rule.now))) }
 {
     let mut signs = om_signs::List::new(alloc);
-    let mut s = Subset::first(rank, elements);
-    for _place in 0..Subset::choose(elements, rank) {
+    for s in Subset::all(rank, elements) {
         signs.push(rule.sign(s))?;
-        s = s.following();
     }
     Ok(Chirotope::lawful(RawMap {
         rank,
