@@ -16,14 +16,5 @@ pub fn first_triple(chi: &Chirotope, sign: Sign) -> Option<Subset>
     ensures found { IfSome result (IsFirstWithSign chi.now sign) }
     ensures none { IfNone result (HasNoneWithSign chi.now sign) }
 {
-    let n = chi.elements();
-    let rank = chi.rank();
-    let mut triple = Subset::first(rank, n);
-    for place in 0..Subset::choose(n, rank) {
-        if chi.at(triple) == sign {
-            return Some(triple);
-        }
-        triple = triple.following();
-    }
-    None
+    Subset::all(chi.rank(), chi.elements()).find(|triple| chi.at(*triple) == sign)
 }

@@ -1,22 +1,35 @@
-use Rattle.std.proofs.Common.{◌≡◌, ◌<◌, ap, below_more, rules, ◌∙◌}
-use Rattle.om_subsets.specs.Subsets.{choose}
-use Rattle.om_subsets.proofs.Walks.{at_next, list_at}
+use Rattle.std.proofs.Common.{◌≡◌, ◌<◌, ◌∙◌, rules, tests, subst}
+use Rattle.om_subsets.specs.Subsets.{rank_of}
+use Rattle.std.proofs.lemmas.Option.{IfSome_then}
+use Rattle.om_subsets.proofs.SetChains.{all_sets_of, callable_at_sets, finds_first, none_at_places}
+use Rattle.om_subsets.proofs.SetChains.{FindsFirst}
 use Rattle.om_chirotope.specs.Map.{chi_of}
 use Rattle.om_callers.proofs.triples.first_triple.Goals as goal
+use Rattle.om_callers.proofs.triples.first_triple.Goals.{After-find}
 
-pub loop-place-preserved : goal.loop-place-preserved
-loop-place-preserved c =
-    let m = c.args.chi.now in
-    let k = c.loop-place.place in
-    let t = c.loop-place.triple in
-    let at = c.loop-place.invariant.at in
-    let inside : k < choose m.elements m.rank =
-    rw (← c.rank-rank.ensures.value, ← c.elements-n.ensures.value, ← c.choose-place-end.ensures.value)
-    c.loop-place-test.true in
-    let other : c.at.result ≡ c.args.sign → ⊥ = search rules in
-    record {
-      none = below_more _ _ c.loop-place.invariant.none
-          (λ e. other (c.at.ensures.place ∙ ap (chi_of m) (list_at m.elements m.rank k t inside at) ∙ e));
-      at = at_next m.elements m.rank k t c.following-triple.result c.following-triple.ensures.n
-          c.following-triple.ensures.size c.following-triple.ensures.lawful c.following-triple.ensures.place inside at;
-    }
+pub find-requires-clause-callable : goal.find-requires-clause-callable
+find-requires-clause-callable c =
+    callable_at_sets c.args.chi.now.elements c.args.chi.now.rank
+    (all_sets_of c.all.ensures.sets c.elements.ensures.value c.rank.ensures.value) (λ x q k. search (rules, tests))
+    (λ x set. let n = set.n_is in let s = set.size in search rules)
+
+-- the call of `find` gives the first triple with the sign
+found : (c : After-find) → FindsFirst c.args.chi.now.elements c.args.chi.now.rank
+    (λ t. chi_of c.args.chi.now t ≡ c.args.sign) (λ t. chi_of c.args.chi.now t ≡ c.args.sign → ⊥) c.find.result
+found c =
+    finds_first c.args.chi.now.elements c.args.chi.now.rank (λ t. chi_of c.args.chi.now t ≡ c.args.sign)
+    (λ t. chi_of c.args.chi.now t ≡ c.args.sign → ⊥)
+    (all_sets_of c.all.ensures.sets c.elements.ensures.value c.rank.ensures.value) _ _ c.find.result
+    c.find.ensures.ran (λ x q k. search (rules, tests)) (λ x q k. search (rules, tests))
+
+pub returns-clause-found : goal.returns-clause-found
+returns-clause-found c = IfSome_then c.find.result (found c).first
+    (λ t h. record {
+      n = h.set.n_is;
+      triple = record { list = h.set.list; size = h.set.size ∙ c.requires };
+      sign = h.yes;
+      first = λ k l. h.below k (subst (λ n. k < rank_of n t.elements) h.set.n_is l);
+    })
+
+pub returns-clause-none : goal.returns-clause-none
+returns-clause-none c = none_at_places c.args.chi.now.elements c.args.chi.now.rank _ _ c.find.result (found c)
