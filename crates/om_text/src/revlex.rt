@@ -16,10 +16,8 @@ pub fn values_from_revlex(map: &RawMap) -> Result<List<Sign>, NoMemory>
     ensures { IfOk result (λ signs. signs ≡ values_from_revlex map.now) }
 {
     let mut signs = map.signs.empty_like();
-    let mut subset = Subset::first(map.rank, map.elements);
-    for _place in 0..Subset::choose(map.elements, map.rank) {
-        signs.push(map.signs.at(subset.rank_revlex() as usize))?;
-        subset = subset.following();
+    for set in Subset::all(map.rank, map.elements) {
+        signs.push(map.signs.at(set.rank_revlex() as usize))?;
     }
     Ok(signs)
 }

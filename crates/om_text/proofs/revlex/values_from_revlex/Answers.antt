@@ -1,37 +1,34 @@
-use Rattle.std.proofs.Common.{◌≡◌, ◌<◌, ◌++◌, ◌∷◌, [], ap, sym, ◌∙◌, arith}
-use Rattle.std.specs.Prelude.{Some, slice_get}
+use Rattle.std.proofs.Common.{◌∙◌, ap, length, arith}
 use Rattle.om_subsets.specs.Subsets.{choose}
-use Rattle.om_subsets.proofs.Walks.{at_first, at_next, list_at}
-use Rattle.om_text.proofs.RevlexValues.{next_value, all_values}
+use Rattle.om_subsets.proofs.SetChains.{at_turn, mapped_more, mapped_at_end}
+use Rattle.om_text.proofs.RevlexValues.{value_at, value_is}
 use Rattle.om_text.proofs.revlex.values_from_revlex.Goals as goal
 
-pub loop-place-init : goal.loop-place-init
-loop-place-init c = record {
-  signs = c.empty_like-signs.ensures;
-  at = at_first c.args.map.now.elements c.args.map.now.rank c.first-subset.result c.first-subset.ensures.n
-      c.first-subset.ensures.size c.first-subset.ensures.lawful c.first-subset.ensures.place;
-}
+pub at-requires : goal.at-requires
+at-requires c =
+    let turn =
+    at_turn c.args.map.now.elements c.args.map.now.rank _ _ _
+    (c.into_iter-set-iterator.ensures.into_iter_gives ∙ c.all-set-items.ensures.sets) c.loop-set.yielded_by
+    c.in-Some.is c.next.ensures.steps in
+    let many = ap (λ n. choose n (length c.in-Some.set.elements)) turn.at.n_is
+    ∙ ap (choose c.args.map.now.elements) turn.at.size in
+    let small = c.rank_revlex.ensures.small in
+    let all = c.requires.signs in
+    omega (arith, many, small, all)
 
-pub loop-place-preserved : goal.loop-place-preserved
-loop-place-preserved c =
-    let m = c.args.map.now in
-    let k = c.loop-place._place in
-    let s = c.loop-place.subset in
-    let at = c.loop-place.invariant.at in
-    let end = c.choose-place-end.ensures.value in
-    let test = c.loop-place-test.true in
-    let l : k < choose m.elements m.rank = omega (arith, end, test) in
-    let g : slice_get m.signs c.rank_revlex.result ≡ Some c.at.result = c.at.ensures in
-    record {
-      signs = c.in_ok-push.ensures.ok ∙ ap (λ xs. xs ++ c.at.result ∷ []) c.loop-place.invariant.signs
-          ∙ next_value m k s.elements c.at.result l (list_at m.elements m.rank k s l at)
-          (ap (slice_get m.signs) (sym c.rank_revlex.ensures.value) ∙ g);
-      at = at_next m.elements m.rank k s c.following-subset.result c.following-subset.ensures.n
-          c.following-subset.ensures.size c.following-subset.ensures.lawful c.following-subset.ensures.place l at;
-    }
+pub loop-set-preserved : goal.loop-set-preserved
+loop-set-preserved c = (
+  tt,
+  tt,
+  c.in_ok-push.ensures.ok
+      ∙ mapped_more (value_at c.args.map.now) c.loop-set.yielded c.in-Some.set c.loop-set.signs c.at.result
+      c.loop-set.invariant.2
+      (value_is c.args.map.now c.in-Some.set.elements c.rank_revlex.result c.at.result c.rank_revlex.ensures.value
+      c.at.ensures),
+)
 
 pub returns : goal.returns
 returns c =
-    let v = c.choose-place-end.ensures.value in
-    let over = c.loop-place-test.false in
-    c.loop-place.invariant.signs ∙ all_values c.args.map.now c.loop-place._place (omega arith)
+    mapped_at_end c.args.map.now.elements c.args.map.now.rank (value_at c.args.map.now) _ _ _ _ c.loop-set.invariant.2
+    (c.into_iter-set-iterator.ensures.into_iter_gives ∙ c.all-set-items.ensures.sets) c.loop-set.yielded_by c.in-None.is
+    c.next.ensures.steps

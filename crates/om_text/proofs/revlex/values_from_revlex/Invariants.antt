@@ -1,10 +1,8 @@
-use Rattle.std.proofs.Common.{◌≡◌}
-use Rattle.om_subsets.proofs.Walks.{IsAt}
-use Rattle.om_text.proofs.RevlexValues.{first_values}
+use Rattle.std.proofs.Common.{◌≡◌, map}
+use Rattle.om_text.proofs.RevlexValues.{value_at}
 use Rattle.om_text.proofs.revlex.values_from_revlex.Given as goal
 
-abbrev pub invariant-loop-place : goal.invariant-loop-place
-invariant-loop-place l = record {
-  signs : l.signs ≡ first_values l.map l._place;
-  at : IsAt l.map.elements l.map.rank l._place l.subset;
-}
+-- the values of the sets that came
+abbrev pub invariant-loop-set : goal.invariant-loop-set
+invariant-loop-set l = (goal.iterator-loop-set).can_next l.set-iterator
+    × (goal.iterator-loop-set).is_finite l.set-iterator × (l.signs ≡ map (λ s. value_at l.map s.elements) l.yielded)
