@@ -1,4 +1,3 @@
 pub mod PlaceLaws
 mod Members
 mod Walks
-mod Sets

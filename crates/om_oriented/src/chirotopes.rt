@@ -1,6 +1,8 @@
 //! The covectors of a chirotope.
 
-ghost use Rattle.std.specs.Prelude.{◌≡◌, ◌↔◌, IsTrue, length};
+ghost use Rattle.std.specs.Prelude.{◌≡◌, ◌+◌, ◌↔◌, IsTrue, length};
+ghost use Rattle.om_signs.specs.SignVec.{IsOrthogonal};
+ghost use Rattle.om_chirotope.specs.Map.{circuit_vector};
 ghost use Rattle.om_chirotope.specs.Chirotope.{IsChirotopeWithinLimits};
 ghost use Rattle.om_denotation.specs.Covectors.{IsCovectorOfChirotope};
 ghost use Rattle.om_denotation.specs.CovectorLaws.{zero_of_chirotope, negative_of_chirotope};
@@ -16,21 +18,17 @@ fn is_orthogonal_to_all(chi: &Chirotope, x: SignVec) -> bool
     requires { length x ≡ chi.now.elements }
     ensures { IsTrue result ↔ IsCovectorOfChirotope chi.now x }
 {
-    let rank = chi.rank();
-    let elements = chi.elements();
-    if rank == elements {
-        return true;
-    }
-    let mut s = Subset::first(rank + 1, elements);
-    loop {
-        if !x.orthogonal(chi.circuit_of(s)) {
-            return false;
-        }
-        match s.next() {
-            Some(next) => s = next,
-            None => return true,
-        }
-    }
+    Subset::all(chi.rank() + 1, chi.elements()).all(|s| is_orthogonal_to(chi, x, s))
+}
+
+/// Whether a vector is orthogonal to the vector V of a set of one element more than the rank.
+fn is_orthogonal_to(chi: &Chirotope, x: SignVec, s: Subset) -> bool
+    requires length { length x ≡ chi.now.elements }
+    requires n { s.n ≡ chi.now.elements }
+    requires size { length s.elements ≡ chi.now.rank + 1 }
+    ensures { IsTrue result ↔ IsOrthogonal x (circuit_vector chi.now s.elements) }
+{
+    x.orthogonal(chi.circuit_of(s))
 }
 
 /// The covectors are the sign vectors that are orthogonal to the vector V of every set of one element more than the

@@ -1,28 +1,21 @@
-use Rattle.std.proofs.Common.{length, sym, ◌∙◌, ap, refl}
-use Rattle.om_oriented.proofs.Sets.{fewer, orthogonal_on, orthogonal_at_last, no_sets, length-circuit_vector}
+use Rattle.std.proofs.Common.{◌+◌, ap, rules, tests}
+use Rattle.om_signs.specs.SignVec.{IsOrthogonal}
+use Rattle.om_subsets.proofs.SetChains.{all_sets_of, callable_at_sets, holds_of_all}
+use Rattle.om_chirotope.specs.Map.{circuit_vector}
 use Rattle.om_oriented.proofs.chirotopes.is_orthogonal_to_all.Goals as goal
 
-pub returns-then-rank-elements : goal.returns-then-rank-elements
-returns-then-rank-elements c =
-    let all = sym c.rank-rank.ensures.value ∙ c.if-rank-elements.true ∙ c.elements-elements.ensures.value in
-    (λ e. no_sets c.args.chi.now c.args.x c.requires all, λ h. refl)
+pub all-requires-2-clause-callable : goal.all-requires-2-clause-callable
+all-requires-2-clause-callable c =
+    callable_at_sets c.args.chi.now.elements (c.args.chi.now.rank + 1)
+    (all_sets_of c.all.ensures.sets c.elements.ensures.value (ap (λ r. r + 1) c.rank.ensures.value))
+    (λ x q k. search (rules, tests))
+    (λ x set. let n = set.n_is in let s = set.size in search rules)
 
-pub orthogonal-requires : goal.orthogonal-requires
-orthogonal-requires c = c.requires
-    ∙ sym (ap length c.circuit_of.ensures ∙ length-circuit_vector c.args.chi.now c.loop-x.s.elements)
-
-pub loop-x-smaller : goal.loop-x-smaller
-loop-x-smaller c = fewer c.args.chi.now c.args.x c.loop-x.s c.loop-x.invariant c.in-Some.next c.in-Some.ensures.n
-    c.in-Some.ensures.size c.in-Some.ensures.rank c.in-Some.ensures.lawful
-
-pub loop-x-preserved : goal.loop-x-preserved
-loop-x-preserved c = orthogonal_on c.args.chi.now c.args.x c.loop-x.s c.loop-x.invariant c.in-Some.next
-    c.circuit_of.result c.circuit_of.ensures (c.orthogonal.ensures.0 c.if-not-orthogonal.false) c.in-Some.ensures.n
-    c.in-Some.ensures.size c.in-Some.ensures.rank c.in-Some.ensures.lawful
-
-pub returns-in-None : goal.returns-in-None
-returns-in-None c = (
-  λ e. orthogonal_at_last c.args.chi.now c.args.x c.loop-x.s c.loop-x.invariant c.circuit_of.result c.requires
-      c.circuit_of.ensures (c.orthogonal.ensures.0 c.if-not-orthogonal.false) (c.in-None.ensures.none.0 refl),
-  λ h. refl,
-)
+pub returns : goal.returns
+returns c =
+    let all =
+    holds_of_all c.args.chi.now.elements (c.args.chi.now.rank + 1)
+    (λ t. IsOrthogonal c.args.x (circuit_vector c.args.chi.now t))
+    (all_sets_of c.all.ensures.sets c.elements.ensures.value (ap (λ r. r + 1) c.rank.ensures.value)) _ _
+    c.all-2.result c.all-2.ensures.ran (λ x q k. search (rules, tests)) (λ x q k. search (rules, tests)) in
+    (λ e. record { size = c.requires; orthogonal = all.0 e }, λ h. all.1 h.orthogonal)
