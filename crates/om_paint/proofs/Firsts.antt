@@ -1,9 +1,8 @@
--- The lexicographically first member of each class of a family of sign vectors, as a walk over the sets of a size goes
--- on; the first circuits and cocircuits.
+-- The lexicographically first member of each class of a family of sign vectors, as the sets of a size come; the first
+-- circuits and cocircuits.
 --
--- Main definitions: AreFirsts, IsFilledBefore, IsCircuitIn, IsCocircuitIn
--- Main results: kept_zero, put, placed, filled_on, filled_at_last, fewer, first_of_circuits, no_circuits,
--- first_of_cocircuits, no_cocircuits
+-- Main definitions: AreFirsts, IsCircuitIn, IsCocircuitIn
+-- Main results: kept_zero, put, placed, met_none, met_more, first_of_circuits, first_of_cocircuits, no_cocircuits
 use Rattle.std.proofs.Common.{ℕ, ◌≡◌, ◌+◌, ◌-◌, ◌<◌, ◌↔◌, List, length, map, get_or, replicate, set, refl, sym, ap}
 use Rattle.std.proofs.Common.{subst, ◌∙◌, inl, inr, arith}
 use Rattle.std.specs.Prelude.{Option, None, Some}
@@ -57,59 +56,23 @@ placed P firsts e size lt h d o s =
 abbrev pub AreFirsts : (List ℕ → List Sign) → (ℕ → List Sign → Type 0) → ℕ → ℕ → ℕ → List (Option (List Sign)) → Type 0
 AreFirsts V H n size k firsts = (i : ℕ) → i < CLASSES → IsFirstIfAny (IsPassing V (H i) n size k) (get_or firsts i None)
 
--- s is a set of the size, and the vectors of the sets before it have been met
-pub record IsFilledBefore (V : List ℕ → List Sign) (H : ℕ → List Sign → Type 0) (n size : ℕ) (s : Chosen)
-    (firsts : List (Option (List Sign))) : Type 0 where
-  pub within : s.n ≡ n
-  pub sized : length s.elements ≡ size
-  pub list : IsSubsetFrom 1 n s.elements
-  pub met : AreFirsts V H n size (rank_of n s.elements) firsts
+-- before the first list no vector has been met
+pub met_none : (V : List ℕ → List Sign) (H : ℕ → List Sign → Type 0) (n size : ℕ)
+    → AreFirsts V H n size 0 (replicate CLASSES None)
+met_none V H n size i lt =
+    subst (IsFirstIfAny (IsPassing V (H i) n size 0)) (sym (get_or-replicate CLASSES i None None lt))
+    (λ X h. let below = h.1 in absurd (omega (arith, below)))
 
-module _ (V : List ℕ → List Sign) (H : ℕ → List Sign → Type 0) (n size : ℕ) where
-  module _ (s : Chosen) (old mid new : List (Option (List Sign))) (v w : List Sign)
-      (h : IsFilledBefore V H n size s old) (e : v ≡ V s.elements) (d : w ≡ map opposite v)
-      (a : (i : ℕ) → i < CLASSES → IsEarlierOf (H i) (get_or old i None) v (get_or mid i None))
-      (b : (i : ℕ) → i < CLASSES → IsEarlierOf (H i) (get_or mid i None) w (get_or new i None)) where
-    here : s.elements ≡ subset_at n size (rank_of n s.elements)
-    here = sym
-        (subst (λ k. subset_at n k (rank_of n s.elements) ≡ s.elements) h.sized
-        (get_or-rank_from 1 n s.elements h.list))
-
-    one_set_more : AreFirsts V H n size (rank_of n s.elements + 1) new
-    one_set_more i lt = place_more V (H i) n size (rank_of n s.elements) v w (e ∙ ap V here) d (get_or old i None)
-        (get_or mid i None) (get_or new i None) (h.met i lt) (a i lt) (b i lt)
-
-    pub filled_on : (t : Chosen) → t.n ≡ s.n → length t.elements ≡ length s.elements
-        → rank_of t.n t.elements ≡ rank_of s.n s.elements + 1 → IsSubsetFrom 1 t.n t.elements
-        → IsFilledBefore V H n size t new
-    filled_on t tn few place list =
-        let m : t.n ≡ n = tn ∙ h.within in
-        let next : rank_of n t.elements ≡ rank_of n s.elements + 1 =
-        subst (λ k. rank_of k t.elements ≡ rank_of n s.elements + 1) m
-        (place ∙ ap (λ k. rank_of k s.elements + 1) h.within) in
-        record {
-          within = m;
-          sized = few ∙ h.sized;
-          list = subst (λ k. IsSubsetFrom 1 k t.elements) m list;
-          met = subst (λ k. AreFirsts V H n size k new) (sym next) one_set_more;
-        }
-
-    pub filled_at_last : rank_of s.n s.elements + 1 ≡ choose s.n (length s.elements)
-        → AreFirsts V H n size (choose n size) new
-    filled_at_last last =
-        let end : rank_of n s.elements + 1 ≡ choose n size = sym (ap (λ k. rank_of k s.elements + 1) h.within) ∙ last
-        ∙ ap (λ k. choose k (length s.elements)) h.within ∙ ap (choose n) h.sized in
-        subst (λ k. AreFirsts V H n size k new) end one_set_more
-
--- the sets that are left become fewer
-pub fewer : (s t : Chosen) → t.n ≡ s.n → length t.elements ≡ length s.elements
-    → rank_of t.n t.elements ≡ rank_of s.n s.elements + 1 → IsSubsetFrom 1 t.n t.elements
-    → choose t.n (length t.elements) - rank_of t.n t.elements < choose s.n (length s.elements) - rank_of s.n s.elements
-fewer s t n size place list =
-    let within : rank_of t.n t.elements < choose t.n (length t.elements) = rank_from-lt 1 t.n t.elements list in
-    let same : choose t.n (length t.elements) ≡ choose s.n (length s.elements) =
-    ap (λ k. choose k (length t.elements)) n ∙ ap (choose s.n) size in
-    omega arith
+-- the vector of the list at the next place has been met, and its negative
+pub met_more : (V : List ℕ → List Sign) (H : ℕ → List Sign → Type 0) (n size k : ℕ) (s : List ℕ)
+    (old mid new : List (Option (List Sign))) (v w : List Sign) → AreFirsts V H n size k old → s ≡ subset_at n size k
+    → v ≡ V s → w ≡ map opposite v
+    → ((i : ℕ) → i < CLASSES → IsEarlierOf (H i) (get_or old i None) v (get_or mid i None))
+    → ((i : ℕ) → i < CLASSES → IsEarlierOf (H i) (get_or mid i None) w (get_or new i None))
+    → AreFirsts V H n size (k + 1) new
+met_more V H n size k s old mid new v w met here e d a b i lt =
+    place_more V (H i) n size k v w (e ∙ ap V here) d (get_or old i None) (get_or mid i None) (get_or new i None)
+    (met i lt) (a i lt) (b i lt)
 
 -- ---- circuits and cocircuits
 
@@ -143,11 +106,6 @@ module _ (m : SignMap) (Q : List Sign → Type 0) where
       → IsFirstIfAny IsCircuitIn o
   first_of_circuits o h = first_same (IsOfList (circuit_vector m) Q m.elements (m.rank + 1)) IsCircuitIn to_circuit
       from_circuit o (all_places (circuit_vector m) Q m.elements (m.rank + 1) o h)
-
-  pub no_circuits : m.rank ≡ m.elements → (i : ℕ) → i < CLASSES
-      → IsFirstIfAny IsCircuitIn (get_or (replicate CLASSES None) i None)
-  no_circuits l i lt = subst (IsFirstIfAny IsCircuitIn) (sym (get_or-replicate CLASSES i None None lt))
-      (λ X h. let c = h.0 in let s = c.size in too_long m.elements c.tuple c.increasing (omega (arith, l, s)))
 
   to_cocircuit : 0 < m.rank → (X : List Sign) → IsOfList (cocircuit_vector m) Q m.elements (m.rank - 1) X
       → IsCocircuitIn X

@@ -17,22 +17,13 @@ pub fn first_circuits<C: Classes>(chi: &Chirotope, classes: &C) -> Firsts
         → IsFirstIfAny (λ X. IsCircuitOfChirotope chi.now X × C.holds classes.now i X) (get_or result i None) }
 {
     let mut firsts = [None; CLASSES];
-    let rank = chi.rank();
-    let elements = chi.elements();
-    if rank == elements {
-        return firsts;
-    }
-    let mut s = Subset::first(rank + 1, elements);
-    loop {
+    for s in Subset::all(chi.rank() + 1, chi.elements()) {
         let v = chi.circuit_of(s);
         let negative = v.neg();
         meet(&mut firsts, classes, v);
         meet(&mut firsts, classes, negative);
-        match s.next() {
-            Some(next) => s = next,
-            None => return firsts,
-        }
     }
+    firsts
 }
 
 /// The first cocircuit of each class, if it has one. The call allocates no memory.
@@ -44,21 +35,16 @@ pub fn first_cocircuits<C: Classes>(chi: &Chirotope, classes: &C) -> Firsts
 {
     let mut firsts = [None; CLASSES];
     let rank = chi.rank();
-    let elements = chi.elements();
     if rank == 0 {
         return firsts;
     }
-    let mut a = Subset::first(rank - 1, elements);
-    loop {
+    for a in Subset::all(rank - 1, chi.elements()) {
         let u = chi.cocircuit_of(a);
         let negative = u.neg();
         meet(&mut firsts, classes, u);
         meet(&mut firsts, classes, negative);
-        match a.next() {
-            Some(next) => a = next,
-            None => return firsts,
-        }
     }
+    firsts
 }
 
 /// Puts a nonzero vector into the place of its class, if it has one, unless an earlier vector is there.
