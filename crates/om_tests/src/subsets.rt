@@ -31,6 +31,17 @@ fn pairs_of_four(rt: HostRuntime) {
     assert!(rt; pair.next().is_none());
 }
 
+#[test]
+fn all_sets_of_a_size(rt: HostRuntime) {
+    let mut masks = PAIRS.iter();
+    for pair in Subset::all(2, 4) {
+        assert!(rt; masks.next() == Some(&pair.mask()));
+    }
+    assert!(rt; masks.next().is_none());
+    assert!(rt; Subset::all(0, 4).count() == 1);
+    assert!(rt; Subset::all(3, 2).next().is_none());
+}
+
 /// The mask and the rank of the subset at a place in the reverse order.
 fn in_reverse(place: u32, r: u8, n: u8) -> Option<(u32, u32)> {
     if n > MAX_PLACES || r > n || place >= Subset::choose(n, r) {
