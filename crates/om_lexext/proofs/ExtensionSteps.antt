@@ -1,18 +1,17 @@
 -- The steps of the calls for lexicographic extensions.
 --
--- Main results: drop_entry, without_off, without_size, sign_with_last, sign_without_last, all_signs, same_map_of,
--- found_entry, passed_entry, entry_bounds, signs_more
+-- Main results: drop_entry, without_off, without_size, sign_with_last, sign_without_last, same_map_of,
+-- found_entry, passed_entry, entry_bounds
 -- Reference: Björner, Las Vergnas, Sturmfels, White and Ziegler, Oriented Matroids, chapter 7.
-use Rattle.std.proofs.Common.{ℕ, zero, suc, ◌≡◌, ◌≢◌, ◌+◌, ◌<◌, ◌≤◌, ◌⊎◌, List, [], ◌∷◌, ◌++◌, length, map, drop, take}
+use Rattle.std.proofs.Common.{ℕ, zero, suc, ◌≡◌, ◌≢◌, ◌+◌, ◌<◌, ◌≤◌, ◌⊎◌, List, [], ◌∷◌, length, map, drop}
 use Rattle.std.proofs.Common.{cond, refl, sym, ap, subst, ◌∙◌, inl, inr, ⊎_elim, arith, get_or}
 use Rattle.std.proofs.lemmas.Bool.{cases_eq, eq-eqb, ne_eqb}
-use Rattle.std.proofs.lemmas.List.{length-append, take_all}
+use Rattle.std.proofs.lemmas.List.{length-append}
 use Rattle.om_signs.specs.declared.sign.Sign.{Sign}
 use Rattle.om_signs.specs.declared.sign.Sign.TheVariants.{Zero}
 use Rattle.om_signs.specs.Sign.{product, first_nonzero}
 use Rattle.om_signs.proofs.SignLaws.{first_nonzero_left, first_nonzero_right}
-use Rattle.om_subsets.specs.Subsets.{IsSubsetFrom, IsMember, choose, without_element, all_subsets, subset_at}
-use Rattle.om_subsets.proofs.Order.{length-subsets_from}
+use Rattle.om_subsets.specs.Subsets.{IsSubsetFrom, IsMember, without_element, all_subsets}
 use Rattle.om_laws.specs.Relations.{along}
 use Rattle.om_laws.specs.Signs.{IsNonzero}
 use Rattle.om_chirotope.specs.Map.{SignMap, chi_of, value_of}
@@ -59,12 +58,6 @@ pub sign_without_last : (m : SignMap) (list : List Signed) (xs : List ℕ) → (
     → chi_of m xs ≡ lexicographic_sign m list xs
 sign_without_last m list xs k = rw (has_not (m.elements + 1) xs k) refl
 
-pub all_signs : (rule : List ℕ → Sign) (n r place all : ℕ) (signs : List Sign)
-    → signs ≡ map rule (take place (all_subsets n r)) → place ≡ all → all ≡ choose n r
-    → signs ≡ map rule (all_subsets n r)
-all_signs rule n r place all signs h e c = h
-    ∙ ap (map rule) (take_all place (all_subsets n r) (let l = length-subsets_from 1 n r in omega (arith, e, c, l)))
-
 pub same_map_of : (m : SignMap) (rule : List ℕ → Sign) (rank elements : ℕ) (signs : List Sign) → rank ≡ m.rank
     → elements ≡ m.elements → signs ≡ map rule (all_subsets (elements + 1) rank)
     → map_by m.rank (m.elements + 1) rule ≡ record { rank = rank; elements = elements + 1; signs = signs }
@@ -94,18 +87,3 @@ module _ (u : ℕ → Sign) (n : ℕ) (list : List Signed) (i : ℕ) (d : Signed
   pub entry_bounds : AreEntries n (drop i list) → (1 ≤ (get_or list i d).element) × ((get_or list i d).element ≤ n)
       × AreEntries n (drop (i + 1) list)
   entry_bounds h = subst (AreEntries n) (drop_entry list i d l) h
-
-last_mapped : (rule : List ℕ → Sign) (xss : List (List ℕ)) (k : ℕ) → k < length xss
-    → map rule (take k xss) ++ rule (get_or xss k []) ∷ [] ≡ map rule (take (k + 1) xss)
-last_mapped rule [] k l = absurd (omega (arith, l))
-last_mapped rule (x ∷ xss) zero l = refl
-last_mapped rule (x ∷ xss) (suc k) l = ap (λ z. rule x ∷ z) (last_mapped rule xss k (omega (arith, l)))
-    ∙ ap (λ j. map rule (take j (x ∷ xss))) (let e : suc (k + 1) ≡ suc k + 1 = omega arith in e)
-
-pub signs_more : (rule : List ℕ → Sign) (n r k : ℕ) (signs new : List Sign) (s : Sign) (xs : List ℕ)
-    → signs ≡ map rule (take k (all_subsets n r)) → new ≡ signs ++ s ∷ [] → s ≡ rule xs → xs ≡ subset_at n r k
-    → k < choose n r → new ≡ map rule (take (k + 1) (all_subsets n r))
-signs_more rule n r k signs new s xs h e q p l =
-    let i : k < length (all_subsets n r) = subst (λ c. k < c) (sym (length-subsets_from 1 n r)) l in
-    e ∙ ap (λ z. z ++ s ∷ []) h ∙ ap (λ z. map rule (take k (all_subsets n r)) ++ z ∷ []) (q ∙ ap rule p)
-    ∙ last_mapped rule (all_subsets n r) k i
