@@ -3,15 +3,18 @@
 
 Looks up what the pages name: each link, each file, and each crate, call and definition that stands between backticks.
 A name is looked up in the sources of the repository; a file from the top, from the folder of the page, or by its name
-alone. Then it asks for the size of README, and for the layers of docs/ARCHITECTURE.md, which layers.py makes of
-crates.txt. The last line is 'pages: N passed, M failed', and the exit code is 1 if one failed.
+alone. Then it asks for the size of README, and whether what is made stands as it is made now: the crates and layers of
+docs/ARCHITECTURE.md (layers.py), its picture (picture.py), and docs/INDEX.md (index.py). The last line is
+'pages: N passed, M failed', and the exit code is 1 if one failed.
 """
 import os
 import re
 import subprocess
 import sys
 
+import index
 import layers
+import picture
 
 TOP = os.path.dirname(os.path.dirname(os.path.abspath(__file__)))
 SOURCES = (".rt", ".antt", ".py", ".sh", ".txt", ".awk", ".bash", ".v", ".edit", ".1", "")
@@ -20,6 +23,7 @@ NAME = re.compile(r"(?:[A-Za-z_]\w*::)*[A-Za-z_]\w*")
 # pages that name calls of other programs
 OTHERS = {"neighbours/COQ.md", "neighbours/POLYMAKE.md", "neighbours/SAGE.md", "neighbours/TOPCOM.md"}
 MOST_LINES, MOST_WORDS = 150, 1500
+ARCHITECTURE, INDEX = "docs/ARCHITECTURE.md", "docs/INDEX.md"
 
 
 def tracked():
@@ -94,11 +98,12 @@ def main():
             failed += not there
             if not there:
                 print("%s: `%s` isn't there" % (page, name))
-        if page == "docs/ARCHITECTURE.md":
-            passed += layers.stands_in(text)
-            failed += not layers.stands_in(text)
-            if not layers.stands_in(text):
-                print("docs/ARCHITECTURE.md: its layers aren't those of crates.txt: run docs/layers.py --write")
+        for made, stands, command in ((ARCHITECTURE, layers.stands_in, "layers.py"), (INDEX, index.stands_in, "index.py")):
+            if page == made:
+                passed += stands(text)
+                failed += not stands(text)
+                if not stands(text):
+                    print("%s isn't what the sources give: run docs/%s --write" % (page, command))
         if page == "README.md":
             sizes = ((len(text.splitlines()), MOST_LINES, "lines"), (len(text.split()), MOST_WORDS, "words"))
             for size, most, what in sizes:
@@ -106,6 +111,10 @@ def main():
                 failed += size > most
                 if size > most:
                     print("README.md has %d %s, and may have %d" % (size, what, most))
+    passed += picture.is_drawn()
+    failed += not picture.is_drawn()
+    if not picture.is_drawn():
+        print("docs/architecture.svg isn't what is drawn now: run docs/picture.py --write")
     print("pages: %d passed, %d failed" % (passed, failed))
     return 1 if failed or not passed else 0
 

@@ -1,17 +1,33 @@
 #!/usr/bin/env python3
 """docs/layers.py [--write | --below CRATE ..]
 
-Prints the layers of the crates, from crates.txt. A crate is in the first layer above all crates that it uses. After a
-crate come the crates that it uses, without those that another of them uses already. With --write the layers are put
-into docs/ARCHITECTURE.md, between the lines that begin and end them there. With --below the crates that are named are
-printed, and all crates below them, the lowest first.
+Prints what each crate holds, and the layers of the crates. What a crate holds is the first sentence of its README,
+and the groups are those below. The layers come from crates.txt: a crate is in the first layer above all crates that it
+uses, and after it come the crates that it uses, without those that another of them uses already. With --write both are
+put into docs/ARCHITECTURE.md, between the lines that begin and end them there. With --below the crates that are named
+are printed, and all crates below them, the lowest first.
 """
 import os
+import re
 import sys
 
 TOP = os.path.dirname(os.path.dirname(os.path.abspath(__file__)))
 PAGE = os.path.join(TOP, "docs", "ARCHITECTURE.md")
 BEGIN, END = "<!-- layers: made by docs/layers.py -->\n```\n", "```\n<!-- end of the layers -->\n"
+FIRST, LAST = "<!-- crates: made by docs/layers.py -->\n", "<!-- end of the crates -->\n"
+
+# The crates by what they are about, each group from its lowest crate on.
+GROUPS = {
+    "Signs and sets": "om_signs om_subsets om_members om_parallel",
+    "The four forms and what they denote":
+        "om_laws om_chirotope om_threeterm om_matroid om_circuits om_covectors om_denotation om_oriented om_convert "
+        "om_dual om_minors om_paint om_lexext",
+    "Rank 3": "om_vectors om_points om_wiring om_mutate om_localize om_make",
+    "The linear program and evidence": "om_rows om_simplex om_grassmann om_certificate om_budgets om_decide",
+    "Texts": "om_lines om_document om_text om_pieces om_printing om_words om_reply om_answer",
+    "The program": "om_port om_representation om_commands om_plane om_program om om_each om_existence",
+    "Tests, and callers to copy from": "om_samples om_callers om_tests om_program_tests",
+}
 
 
 def crates():
@@ -49,6 +65,26 @@ def layers():
     return "\n".join(lines) + "\n"
 
 
+def first_sentence(crate):
+    """The first sentence of a crate's README."""
+    with open(os.path.join(TOP, "crates", crate, "README.md"), encoding="utf-8") as file:
+        paragraph = file.read().split("\n\n")[1].replace("\n", " ")
+    return re.match(r".*?[.](?=\s|$)", paragraph).group()
+
+
+def groups():
+    """A table for each group: its crates, and what each holds."""
+    grouped = " ".join(GROUPS.values()).split()
+    if sorted(grouped) != sorted(crates()):
+        wrong = sorted(set(grouped) ^ set(crates()))
+        sys.exit("layers.py: these crates stand in no group, or aren't in crates.txt: %s" % " ".join(wrong))
+    tables = []
+    for title, names in GROUPS.items():
+        rows = ["| [%s](../crates/%s/README.md) | %s |\n" % (it, it, first_sentence(it)) for it in names.split()]
+        tables.append("**%s**\n\n| Crate | Holds |\n|---|---|\n%s" % (title, "".join(rows)))
+    return "\n".join(tables)
+
+
 def with_lower(names):
     """These crates and all below them, each after those that it uses."""
     used, found = crates(), []
@@ -67,8 +103,17 @@ def with_lower(names):
 
 
 def stands_in(page):
-    """Whether the page has these layers."""
-    return BEGIN + layers() + END in page
+    """Whether the page has these layers, and says of each crate what it holds."""
+    return BEGIN + layers() + END in page and FIRST + groups() + LAST in page
+
+
+def put(page, begin, text, end):
+    """The page with this text between the lines that begin and end it."""
+    head, found, rest = page.partition(begin)
+    _, ended, tail = rest.partition(end)
+    if not found or not ended:
+        sys.exit("layers.py: docs/ARCHITECTURE.md has no place for what follows %r" % begin)
+    return head + begin + text + end + tail
 
 
 def main():
@@ -76,16 +121,13 @@ def main():
         print("\n".join(with_lower(sys.argv[2:])))
         return
     if sys.argv[1:] != ["--write"]:
-        sys.exit(__doc__) if sys.argv[1:] else print(layers(), end="")
+        sys.exit(__doc__) if sys.argv[1:] else print(groups() + "\n" + layers(), end="")
         return
-    with open(PAGE) as file:
+    with open(PAGE, encoding="utf-8") as file:
         page = file.read()
-    head, begin, rest = page.partition(BEGIN)
-    _, end, tail = rest.partition(END)
-    if not begin or not end:
-        sys.exit("layers.py: docs/ARCHITECTURE.md has no place for the layers")
-    with open(PAGE, "w") as file:
-        file.write(head + BEGIN + layers() + END + tail)
+    page = put(put(page, FIRST, groups(), LAST), BEGIN, layers(), END)
+    with open(PAGE, "w", encoding="utf-8") as file:
+        file.write(page)
 
 
 if __name__ == "__main__":
