@@ -11,10 +11,7 @@ use Rattle.std.proofs.lemmas.List.{get_or-replicate, get_or-set_same, get_or-set
 use Rattle.std.proofs.lemmas.Option.{same_Some}
 use Rattle.om_signs.specs.declared.sign.Sign.{Sign}
 use Rattle.om_signs.specs.Sign.{opposite}
-use Rattle.om_subsets.specs.Subsets.{choose, rank_of, subset_at, IsSubsetFrom}
-use Rattle.om_subsets.specs.Members.{Chosen}
-use Rattle.om_subsets.proofs.Order.{rank_from-lt, get_or-rank_from}
-use Rattle.om_subsets.proofs.Counts.{too_long}
+use Rattle.om_subsets.specs.Subsets.{choose, subset_at}
 use Rattle.om_chirotope.specs.Map.{SignMap, circuit_vector, cocircuit_vector}
 use Rattle.om_denotation.specs.Circuits.{HasNonzero, IsCircuitOfChirotope, IsCocircuitOfChirotope}
 use Rattle.om_paint.specs.declared.classes.TheConstants.{CLASSES}

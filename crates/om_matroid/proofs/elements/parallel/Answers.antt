@@ -1,4 +1,4 @@
-use Rattle.std.proofs.Common.{◌≡◌, ◌≢◌, ◌+◌, ◌↔◌, ◌∙◌, ◌∷◌, [], IsTrue, length, sym, subst, below_more}
+use Rattle.std.proofs.Common.{◌≢◌, ◌+◌, ◌↔◌, ◌∙◌, ◌∷◌, [], IsTrue, length, sym, subst, below_more}
 use Rattle.std.proofs.lemmas.Bool.{false≢true}
 use Rattle.std.proofs.lemmas.List.{length-append}
 use Rattle.om_subsets.specs.Subsets.{IsMember}

@@ -1,4 +1,4 @@
-use Rattle.std.proofs.Common.{◌≢◌, ◌∙◌, refl, sym, rules, tests}
+use Rattle.std.proofs.Common.{◌≢◌, refl, sym, rules, tests}
 use Rattle.std.proofs.lemmas.Option.{IfSome_then}
 use Rattle.om_subsets.proofs.SetChains.{all_sets_of, callable_at_sets, finds_first, FindsFirst}
 use Rattle.om_chirotope.specs.Map.{chi_of}
