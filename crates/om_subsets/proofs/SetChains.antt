@@ -3,8 +3,8 @@
 -- Main definitions: IsSetOf, IsFirstSet, FindsFirst
 -- Main results: gives_all_sets and gives_all_subsets, the sets that come and their lists; at_turn, number_at_end,
 -- all_at_end, mapped_more and mapped_at_end, for a `for`; callable_at_sets, where a closure may be called;
--- holds_of_all, what `all` gives; finds_first and none_at_places, what `find` gives; set_of_pair, for sets that come with
--- other values
+-- holds_of_all, what `all` gives; finds_first and none_at_places, what `find` gives; set_of_pair, for sets that come
+-- with other values
 use Rattle.std.specs.Prelude.{ℕ, ◌≡◌, ◌<◌, List, [], ◌∷◌, ◌++◌, length, map, Option, Some, None, Bool, true, false}
 use Rattle.std.specs.Prelude.{MatchOption, ⊤, IfNone, IfSome, IsTrue, ◌↔◌}
 use Rattle.std.specs.Bool.{MatchBool}

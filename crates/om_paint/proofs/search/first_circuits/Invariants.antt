@@ -7,4 +7,5 @@ use Rattle.om_paint.proofs.search.first_circuits.Given as goal
 abbrev pub invariant-loop-s : goal.invariant-loop-s
 invariant-loop-s g l = (goal.iterator-loop-s g).can_next l.s-iterator
     × (goal.iterator-loop-s g).is_finite l.s-iterator
-    × AreFirsts (circuit_vector l.chi) (g.C.Classes.holds l.classes) l.chi.elements (l.chi.rank + 1) (length l.yielded) l.firsts
+    × AreFirsts (circuit_vector l.chi) (g.C.Classes.holds l.classes) l.chi.elements (l.chi.rank + 1) (length l.yielded)
+    l.firsts
