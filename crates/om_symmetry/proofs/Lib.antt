@@ -1,0 +1,13 @@
+pub mod Distinct
+pub mod Places
+pub mod Products
+pub mod Lifts
+pub mod Images
+pub mod Reading
+pub mod Steps
+pub mod Tuples
+pub mod Reorientations
+pub mod Groups
+pub mod Axioms
+pub mod SortedTuples
+pub mod Bases
