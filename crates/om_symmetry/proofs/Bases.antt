@@ -38,7 +38,7 @@ module _ (n : ℕ) (w : List SignedElement) (p : IsSignedPermutation n w) where
         (sym (element_apart n w p i j.0 k (each_member (IsElement n) t h j.0 j.1) j.2)) j.1,
   )
 
-  distinct_there : (t : List ℕ) → Each (IsElement n) t → IsDistinct t → IsDistinct (map (element_at w) t)
+  pub distinct_there : (t : List ℕ) → Each (IsElement n) t → IsDistinct t → IsDistinct (map (element_at w) t)
   distinct_there [] h d = tt
   distinct_there (x ∷ t) h d = (λ m. d.0 ((member_there t h.1 x h.0).1 m), distinct_there t h.1 d.1)
 

@@ -1,0 +1,5 @@
+pub mod Shorter
+pub mod Simple
+pub mod Exchanged
+pub mod Deletions
+pub mod Extensions
