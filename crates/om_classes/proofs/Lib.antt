@@ -3,3 +3,10 @@ pub mod Simple
 pub mod Exchanged
 pub mod Deletions
 pub mod Extensions
+pub mod Signatures
+pub mod Halves
+pub mod Covers
+pub mod SimpleSteps
+pub mod UniformSteps
+pub mod Triangles
+pub mod Listings

@@ -1,13 +1,18 @@
 //! Laws of classes. Each function is a theorem: it has an empty body, and its contract is the statement.
 
-ghost use Rattle.std.specs.Prelude.{ℕ, ◌<◌, ◌≤◌, List};
+ghost use Rattle.std.specs.Prelude.{ℕ, ◌+◌, ◌<◌, ◌≤◌, List, [], ◌∷◌, false};
+ghost use Rattle.std.specs.List.{Contains};
+ghost use Rattle.om_signs.specs.declared.sign.Sign.{Sign};
 ghost use Rattle.om_chirotope.specs.Map.{SignMap};
 ghost use Rattle.om_chirotope.specs.Chirotope.{IsChirotope};
 ghost use Rattle.om_minors.specs.Minors.{deleted};
-ghost use Rattle.om_localize.specs.Extensions.{IsExtension};
+ghost use Rattle.om_localize.specs.Extensions.{IsExtension, IsSignature};
+ghost use Rattle.om_localize.specs.Listings.{AreFirst};
 ghost use Rattle.om_symmetry.specs.declared.signed_element.SignedElement.{SignedElement};
 ghost use Rattle.om_symmetry.specs.Permutations.{IsSignedPermutation, acted, lifted};
-ghost use Rattle.om_classes.specs.Classes.{IsSimple, IsUniform, HasBasisBeforeLast};
+ghost use Rattle.om_classes.specs.Classes.{IsSimple, IsUniform, HasBasisBeforeLast, IsSimpleChirotope};
+ghost use Rattle.om_classes.specs.Classes.{IsUniformChirotope, IsComplete};
+ghost use Rattle.om_classes.specs.Covers.{IsSimpleHalf, IsUniformHalf, IsCover, triangle};
 
 /// In the image of a simple map every two elements are together in some basis too, and the image of a uniform map is
 /// uniform.
@@ -50,4 +55,34 @@ pub fn deletion_of_the_last_element()
 pub fn extensions_go_along()
     ensures { (m x : SignMap) (w : List SignedElement) → IsSignedPermutation m.elements w → IsExtension m x
         → IsExtension (acted w m) (acted (lifted w) x) }
+{}
+
+/// A listing of signatures after which no further one exists has the signature of each extension.
+///
+/// Source: Björner, Las Vergnas, Sturmfels, White and Ziegler, *Oriented Matroids*, chapter 7.
+pub fn whole_listing()
+    ensures { (m : SignMap) (k : ℕ) (lines : List (List Sign)) (signs : List Sign)
+        → AreFirst (IsSignature m) k lines false → IsSignature m signs → Contains lines signs }
+{}
+
+/// Each chirotope of rank 3 on three elements is isomorphic to the one with the sign plus. It is simple and uniform, so
+/// the list of it alone is complete.
+///
+/// Source: Björner, Las Vergnas, Sturmfels, White and Ziegler, *Oriented Matroids*, chapter 3.
+pub fn three_elements()
+    ensures simple { IsComplete (IsSimpleChirotope 3) (triangle ∷ []) }
+    ensures uniform { IsComplete (IsUniformChirotope 3) (triangle ∷ []) }
+{}
+
+/// The step. Take a complete list on n elements, n at least 3, and a list of which each member is isomorphic to an
+/// extension of a member of the first by a signature that is led by minus and isn't zero at all pairs with some
+/// element. If each such extension is isomorphic to a member of the second list, this list is complete on n + 1
+/// elements. It is the same for uniform chirotopes, with signatures that are led by minus and have no zero.
+///
+/// Source: Björner, Las Vergnas, Sturmfels, White and Ziegler, *Oriented Matroids*, chapter 7.
+pub fn next_list_is_complete()
+    ensures simple { (n : ℕ) (classes next : List SignMap) → 3 ≤ n → IsComplete (IsSimpleChirotope n) classes
+        → IsCover (IsSimpleHalf n) n classes next → IsComplete (IsSimpleChirotope (n + 1)) next }
+    ensures uniform { (n : ℕ) (classes next : List SignMap) → 3 ≤ n → IsComplete (IsUniformChirotope n) classes
+        → IsCover IsUniformHalf n classes next → IsComplete (IsUniformChirotope (n + 1)) next }
 {}

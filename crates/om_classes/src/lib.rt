@@ -8,5 +8,5 @@ mod laws;
 
 pub use laws::{
     deletion_of_the_last_element, extensions_go_along, images_of_simple_chirotopes,
-    last_element_off_a_basis,
+    last_element_off_a_basis, next_list_is_complete, three_elements, whole_listing,
 };

@@ -1,8 +1,8 @@
 -- The values of an image on tuples.
 --
 -- Main results: the image of a map on all tuples (acted_tuples), its value on a tuple (acted_value) and its sign at an
--- increasing list (acted_sign); maps by rules that agree on increasing lists are the same (same_by); a map is that of
--- its own signs (by_own_signs).
+-- increasing list (acted_sign); rules that agree on increasing lists give the same signs and maps (same_listed,
+-- same_by); a map is that of its own signs (by_own_signs).
 use Rattle.std.proofs.Common.{ℕ, ◌≡◌, ◌<◌, List, [], ◌∷◌, ◌++◌, length, map, sym, ap}
 use Rattle.std.proofs.Common.{◌∙◌, inl, inr, arith}
 use Rattle.std.proofs.lemmas.List.{length-map, get_or-map, ext_get_or}
@@ -108,20 +108,22 @@ module _ (m : SignMap) (w : List SignedElement) where
 
 -- ---- maps by rules
 
+pub same_listed : (r n : ℕ) (f g : List ℕ → Sign)
+    → ((xs : List ℕ) → IsSubsetFrom 1 n xs → length xs ≡ r → f xs ≡ g xs)
+    → map f (all_subsets n r) ≡ map g (all_subsets n r)
+same_listed r n f g h = ext_get_or Zero (map f (all_subsets n r)) (map g (all_subsets n r))
+    (length-map (all_subsets n r) f ∙ sym (length-map (all_subsets n r) g)) (λ j lt.
+    let whole = length-map (all_subsets n r) f in
+    let size = length-subsets_from 1 n r in
+    let few : j < length (all_subsets n r) = omega arith in
+    let small : j < choose n r = omega arith in
+    let t = listed 1 n r j small in
+    get_or-map f (all_subsets n r) j [] Zero few ∙ h (subset_at n r j) t.lawful t.size
+    ∙ sym (get_or-map g (all_subsets n r) j [] Zero few))
+
 pub same_by : (r n : ℕ) (f g : List ℕ → Sign)
     → ((xs : List ℕ) → IsSubsetFrom 1 n xs → length xs ≡ r → f xs ≡ g xs) → map_by r n f ≡ map_by r n g
-same_by r n f g h = λ i. record { rank = r; elements = n; signs = signs i }
-  where
-    signs : map f (all_subsets n r) ≡ map g (all_subsets n r)
-    signs = ext_get_or Zero (map f (all_subsets n r)) (map g (all_subsets n r))
-        (length-map (all_subsets n r) f ∙ sym (length-map (all_subsets n r) g)) (λ j lt.
-        let whole = length-map (all_subsets n r) f in
-        let size = length-subsets_from 1 n r in
-        let few : j < length (all_subsets n r) = omega arith in
-        let small : j < choose n r = omega arith in
-        let t = listed 1 n r j small in
-        get_or-map f (all_subsets n r) j [] Zero few ∙ h (subset_at n r j) t.lawful t.size
-        ∙ sym (get_or-map g (all_subsets n r) j [] Zero few))
+same_by r n f g h = λ i. record { rank = r; elements = n; signs = same_listed r n f g h i }
 
 pub own_signs : (m : SignMap) → IsMap m → map (chi_of m) (all_subsets m.elements m.rank) ≡ m.signs
 own_signs m h = ext_get_or Zero (map (chi_of m) (all_subsets m.elements m.rank)) m.signs
