@@ -68,9 +68,21 @@ BAD = [
     (["tally"], FOUR, "document 1: a document without a verdict", False),
     (["tally"], FOUR + VECTORS.replace(b"-1", b"1"), "claim 1: refused wrongsign 1,3,4", False),
     (["tally"], FOUR + b"nonrealizable\nend\n", "claim 1: refused nostrict", False),
+    (["relabel", "1"], b"", "the input has no document", False),
+    (["to-graph6"], b"", "the input has no document", False),
+    (["classes"], b"", "the input has no document", True),
+    (["grow"], b"# nothing\n", "the input has no document", True),
+    (["realize"], b"", "the input has no document", False),
+    (["tally"], b"", "the input has no document", False),
+    (["tally", "--line"], b"", "the input has no document", False),
     (["tally"], FOUR + VECTORS[:-4], "document 1: it breaks off", False),
     (["tally"], FOUR + VECTORS[:-4] + FOUR + VECTORS, "document 1: it breaks off", False),
 ]
+
+
+# what the messages on wrong words say, which end with 2
+WRONG_WORDS = ("permutation", "--colours", "no words", "--uniform", "a schedule has", "the word", "decide doesn't take",
+               "its words are")
 
 
 def run(words, data=b"", environment=None):
@@ -98,7 +110,7 @@ def bad_inputs(has_nauty):
         done = run(words, data)
         said = done.stderr.decode(errors="replace")
         named = said.startswith(words[0] + ": ") and message in said and "Traceback" not in said
-        good = done.returncode not in (0, None) and named and is_whole(done.stdout)
+        good = done.returncode == (2 if message.startswith(WRONG_WORDS) else 1) and named and is_whole(done.stdout)
         got = (good, message) if good else (done.returncode, said)
         compare("%s on %r" % (" ".join(words), data[:60]), (True, message), got)
     for words, variable in [(["realize"], "OM_EACH"), (["tally"], "OM_EACH"), (["grow"], "LABELG"),
@@ -238,7 +250,7 @@ def stopped_and_taken_over():
         compare("claims of a run with a tally", False, os.path.exists(os.path.join(third, "all-5.claims")))
     for words in (["classify"], ["classify", "x", "some", "5"], ["classify", "x", "all", "2"]):
         done = run(words)
-        compare(" ".join(words), (1, b"", True), (done.returncode, done.stdout, done.stderr.startswith(b"classify: ")))
+        compare(" ".join(words), (2, b"", True), (done.returncode, done.stdout, done.stderr.startswith(b"classify: ")))
 
 
 def answer_of(done):

@@ -27,6 +27,10 @@ class Refusal(Exception):
     """What is wrong, in words; the program ends with code 1 and this text."""
 
 
+class WrongWords(Refusal):
+    """The words behind the program's name aren't what it takes; it ends with code 2."""
+
+
 def run(main):
     """Runs a program to its end. What it wrote before a fault are whole documents, and it has no traceback."""
     code, text = 0, ""
@@ -41,7 +45,7 @@ def run(main):
         finally:
             sys.stdout.flush()
     except (Refusal, UnicodeDecodeError) as fault:
-        code, text = 1, str(fault)
+        code, text = 2 if isinstance(fault, WrongWords) else 1, str(fault)
     except BrokenPipeError:
         code, text = 5, ""  # a reader that goes away, as head does, wants to hear no more
     except OSError as fault:
@@ -100,7 +104,7 @@ def lines_with_words(source):
 
 def documents(source, claims=False):
     """The number of elements and the signs of each document, and with claims the words of the lines of its verdict
-    block."""
+    block. An empty stream is refused."""
     lines = lines_with_words(source)
     following = next(lines, None)
     number = 0
@@ -119,6 +123,9 @@ def documents(source, claims=False):
                     raise Refusal("document %d: it breaks off in its block" % number)
             following = next(lines, None)
         yield (n, signs, block) if claims else (n, signs)
+    if not number:
+        # so a step before it that failed is seen at the end of a pipe, too
+        raise Refusal("the input has no document")
 
 
 def lots(items):

@@ -43,7 +43,8 @@ GOOD = [("om-to-topcom", UNIFORM, UNIFORM), ("om-points-to-topcom", POINTS, POIN
         ("lists-to-om points", b"[[0,0,1],[1,0,1]]\n", b"[[1,1,1]]"),
         ("topcom-to-om", b"4,3:\n++++\n[[0,1,2,3]]\n", b"4,2:+-+-+-"),
         ("topcom-points-to-om", b"[[0,0,1],[1,0,1]]\n[[1,0]]\n", b"[[1,1/3,1]]\n"),
-        ("topcom-sets-to-om circuits 3", b"C[0] := [{0,2},{1}];\n", b"3,2:\n{\n[{1},{2}]\n}\n"),
+        ("topcom-sets-to-om cocircuits 3", b"C[0] := [{0,2},{1}];\n", b"3,2:\n{\n[{1},{2}]\n}\n"),
+        ("topcom-sets-to-om circuits 3", b"C[0] := [{0,2},{1}];\n", b"C[0] := [{1},{2}];\n"),
         ("extensions-to-om examples/uniform-3-4.om -", b"om 1\nextensions 4\n------\n++++++\nend\n", b""),
         ("restore-names examples/uniform-3-4-named.om", b"mutations 1\n1,2,3\nend\n", b"circuit +-+-\n")]
 TALLY = {True: 0, False: 0}

@@ -25,7 +25,7 @@ import tempfile
 
 TOP = os.path.dirname(os.path.dirname(os.path.abspath(__file__)))
 HERE = os.path.join(TOP, "neighbours")
-OM = os.path.join(TOP, "crates", "om", "out", "om")
+OM, EACH = (os.path.join(TOP, "crates", name, "out", name) for name in ("om", "om_each"))
 CHANGES = 100
 AXIOMS = ["ClassicalDedekindReals.sig_forall_dec", "FunctionalExtensionality.functional_extensionality_dep"]
 TALLY = {True: 0, False: 0}
@@ -34,7 +34,7 @@ sys.path.insert(0, HERE)
 from claims import claims as claims_in  # noqa: E402
 from filters import Refused  # noqa: E402
 from om import pieces  # noqa: E402
-from referee import NoClaim, claims_of, judge, read  # noqa: E402
+from referee import Broken, answers  # noqa: E402
 
 
 def expect(what, found, wanted):
@@ -73,10 +73,10 @@ def parts(data):
 # ---- The referee
 
 def said(data):
-    """What the referee says; None stands for a text that it doesn't take for a claim."""
+    """What the referee says; None stands for a stream that it doesn't read to its end."""
     try:
-        return b"".join(judge(read(lines)).encode() + b"\n" for lines in claims_of(io.BytesIO(data))) or None
-    except NoClaim:
+        return b"".join(answer.encode() + b"\n" for answer, _ in answers(io.BytesIO(data)))
+    except Broken:
         return None
 
 
@@ -89,9 +89,10 @@ def is_read(data):
 
 
 def compare(what, data, theirs):
-    """A text of which `om check` names a line is no claim for the referee, and the answers to each other are the
-    same. The filters read those of both verdicts in rank 3."""
-    expect(what, said(data), None if theirs.startswith((b"refused line ", b"refused long")) else theirs)
+    """The referee says what `om-each check` says, line by line, of streams without a line of more than 2^20 bytes. The
+    filters read the claims of both verdicts in rank 3."""
+    is_read_whole = all(len(line) <= 2**20 for line in data.splitlines(True))
+    expect(what, said(data), run([EACH, "check"], data)[1] if is_read_whole else None)
     if re.search(rb"(?m)^\s*(non)?realizable\s*$", data):
         refused = (b"refused line", b"refused long", b"refused notrank3", b"refused range", b"refused notincreasing",
                    b"refused notreversed")
@@ -124,25 +125,59 @@ def look_at_referee(claims):
         for _ in range(CHANGES):
             text = changed(data, chance)
             compare("a change of %s: %r" % (name, text.decode()), text, om("check", data=text))
-    for text in (b"om 1\nchirotope 3 4\n++++\nend\n", b"", b"om 1\ncircuits 3\nend\nnonrealizable\nend\n",
-                 b"end\nend\n"):
-        code, answer, message = run(["referee.py"], text)
-        expect("no claim: %r" % text, (code, answer, message.startswith(b"referee.py: ")), (2, b"", True))
+    look_at_odd_streams([re.sub(b"(?m)^#.*\n", b"", data) for _, data in claims])
     code, answer, _ = run(["referee.py"], b"".join(data for _, data in claims))
     expect("a stream", (code, answer), (0, b"".join(om("check", data=data) for _, data in claims)))
 
 
+def look_at_odd_streams(claims):
+    """Streams in which some claim is broken, too long, or followed by something: the referee says what `om-each check`
+    says, names the claim and the line, and goes on."""
+    first, second = [data for data in claims if b"\nnonrealizable" in data][:2]
+    cut = first[:first.rindex(b"end")]
+    for what, stream, message in (
+            ("a broken claim between others", first + second.replace(b"\nend\n", b"\nend\nx\n", 1) + first,
+             b"referee.py: claim 2: line "),
+            ("a claim that breaks off before another one", cut + second, b"referee.py: claim 1: line "),
+            ("a claim that breaks off", first + cut, b"referee.py: claim 2: line "),
+            ("what follows the last end", first + b"end\n", b"referee.py: claim 2: line 1: "),
+            ("words behind the last end", first + b"# x\n\nx y\n", b"referee.py: claim 2: line 3: "),
+            ("a document alone", first[:first.index(b"\nend\n") + 5], b"referee.py: claim 1: line "),
+            ("lines end alone", b"end\nend\n", b"referee.py: claim 1: line 1: "),
+            ("a claim of 1,048,576 bytes", b"#" * (2**20 - len(first) - 1) + b"\n" + first, b""),
+            ("a claim of a byte more", (b"#" * 2**19 + b"\n") * 2 + first + second,
+             b"referee.py: claim 1: more than 2^20 bytes"),
+            ("a block of a kind for the other verdict", first.replace(b"nonrealizable", b"realizable"),
+             b"referee.py: claim 1: line ")):
+        code, answer, said_of_it = run(["referee.py"], stream)
+        theirs = run([EACH, "check"], stream)
+        expect("the referee on %s" % what, (code, answer, message in said_of_it, b"Traceback" in said_of_it),
+               (*theirs[:2], True, False))
+    on_list = b"om 1\ncircuits 3\nend\nnonrealizable\nend\n"
+    for what, words, stream, wanted in (
+            ("a claim on a list", [], first + on_list + first, (1, b"valid nonrealizable\nunread circuits\n" +
+                                                               b"valid nonrealizable\n")),
+            ("nothing", [], b"", (1, b"")), ("a remark", [], b"# x\n", (1, b"")),
+            ("a line of 3 MB", [], first + b"x" * 3000000 + b"\n" + first, (1, b"valid nonrealizable\n")),
+            ("a word", ["--wrong"], first, (2, b"")), ("a file's name", ["examples/pappus-vectors.om"], b"", (2, b""))):
+        code, answer, message = run(["referee.py", *words], stream)
+        expect("the referee on %s" % what, (code, answer, message.startswith(b"referee.py: ")), (*wanted, True))
+
+
 def look_at_rows():
-    """The claims of the rows, with answers worked out by hand; those on lists and those of streams aren't read by the
-    referee."""
+    """The claims of the rows, with answers worked out by hand; those on lists aren't read by the referee."""
     spec = importlib.util.spec_from_file_location("rows_check", os.path.join(TOP, "rows", "check.py"))
     rows = importlib.util.module_from_spec(spec)
     spec.loader.exec_module(rows)
     for path in sorted(set(glob.glob(os.path.join(TOP, "rows", "*.txt"))) - {os.path.join(TOP, "rows", "streams.txt")}):
         for row in rows.rows_of(path):
-            is_read = row.words == ["check"] and row.input is not None and row.code in (0, 1)
-            if is_read and not re.search(rb"(?m)^(co)?(circuits|covectors) ", row.input):
-                compare("a row: %s" % row.line[:200], row.input, row.output)
+            if row.words == ["check"] and row.input is not None and row.code in (0, 1):
+                kind = re.search(rb"(?m)^\s*(circuits|cocircuits|covectors) +([1-9]|1[0-9]|20)\s*(#.*)?$", row.input)
+                if kind:
+                    expect("a row on a list: %s" % row.line[:200], (said(row.input) or b"").startswith(
+                        (b"unread %s\n" % kind[1], b"refused line 1 version", b"refused long")), True)
+                else:
+                    compare("a row: %s" % row.line[:200], row.input, row.output)
 
 
 # ---- Brackets and points
@@ -210,6 +245,8 @@ REFUSED = [
     ("claim-to-coq", b"om 1\ncircuits 3\nend\nnonrealizable\nend\n", 1),
     ("claim-to-coq", b"om 1\nwiring 3\n1-2\nend\nnonrealizable\nend\n", 1),
     ("claim-to-brackets", CLAIM, 1), ("claim-to-brackets", b"\xff\n", 1), ("claim-to-brackets x", CLAIM, 2),
+    ("claim-to-brackets", b"om 1\nchirotope 3 5\n++++++++++\nend\nnonrealizable\neq 1 2 3 4 5 1 2 1\nend\n", 1),
+    ("claim-to-brackets", b"om 1\nchirotope 3 5\n++++++++++\nend\nnonrealizable\nlt 1 2 3 4 9 1 2 1\nend\n", 1),
     ("claim-to-brackets", 2 * b"om 1\nchirotope 3 3\n+\nend\nnonrealizable\nend\n", 1),
     ("claim-to-points", b"om 1\nchirotope 3 3\n+\nend\nnonrealizable\nend\n", 1), ("claim-to-points", b"end\nend\n", 1),
     ("claim-to-points", CLAIM.replace(b"0 1\n", b"0 -1\n"), 1),

@@ -51,7 +51,7 @@ FILTERS = [
     ("lists-to-om circuits", b"[[1,-1],[-1,1]]\n"), ("lists-to-om chirotope 3 4", b"[1,1,1,1]\n"),
     ("lists-to-om points", b"[[0,0,1],[1,0,1]]\n"), ("topcom-to-om", b"4,3:\n++++\n[[0,1,2,3]]\n"),
     ("topcom-points-to-om", b"[[0,0,1],[1,0,1]]\n"), ("topcom-sets-to-om circuits 3", b"C[0] := [{0,2},{1}];\n"),
-    ("topcom-sets-to-om circuits 3", b"3,2:\n{\n[{1},{2}]\n}\n"),
+    ("topcom-sets-to-om cocircuits 3", b"3,2:\n{\n[{1},{2}]\n}\n"),
     ("extensions-to-om examples/uniform-3-4.om -", b"om 1\nextensions 4\n++++++\nend\n"),
     ("restore-names examples/uniform-3-4-named.om", b"mutations 1\n1,2,3\nend\n"),
     ("claim-to-coq", VECTORS), ("claim-to-coq", ENTRIES), ("claim-to-points", PLANE), ("claim-to-brackets", ENTRIES),
@@ -70,7 +70,7 @@ FILES = [
     ("brackets-to-claim /dev/null", BRACKETS, 1, "missing"),
     ("brackets-to-claim examples", BRACKETS, 4, "Is a directory"),
     ("claim-to-brackets", ENTRIES + ENTRIES, 1, "one claim is wanted"),
-    ("extensions-to-om TWO -", b"om 1\nextensions 4\nend\n", 1, "document 2 has no listing"),
+    ("extensions-to-om --first TWO -", b"om 1\nextensions 4\nend\n", 1, "document 2 has no listing"),
     ("extensions-to-om /dev/null -", b"om 1\nextensions 4\nend\n", 1, "missing"),
     ("extensions-to-om - examples", UNIFORM, 4, "Is a directory"),
     ("extensions-to-om - /dev/null", UNIFORM, 1, "document 1 has no listing"),
@@ -80,7 +80,7 @@ FILES = [
     ("restore-names examples/non-pappus-claim.om", b"accepted\n", 1, "no names"),
 ]
 
-# claims that `check` refuses, and which relabel isn't to make into others
+# claims that `check` refuses, which relabel isn't to make into others, nor claim-to-brackets into inequalities
 UNLAWFUL = [UNIFORM + b"nonrealizable\nlt " + entry + b"\nend\n" for entry in (
     b"1 2 4 3 5 1 2 1", b"1 2 2 3 4 1 2 1", b"1 2 3 4 2 0 2 1", b"1 2 3 4 4 -1 2 1", b"1 2 3 4 1 1 4 1",
     b"+1 2 3 4 1 1 2 1", b"1 2 3 4 1 1 2 0", b"1 2 3 4 1 1 2 1_0")]
@@ -261,7 +261,9 @@ def look_at_streams(line, good):
     code, output, message = run("%s < ." % path, b"")
     yield "%s: a folder as input" % line, (code > 0, output, b"Traceback" in message), (True, b"", False)
     code, output, _ = run("%s 2>&-" % path, b"\0")
-    yield "%s: a refusal and a closed place for messages" % line, (code > 0, output), (True, b"")
+    # the referee's refusal is an answer
+    refusal = b"refused line 1 version\n" if name == "referee.py" else b""
+    yield "%s: a refusal and a closed place for messages" % line, (code > 0, output), (True, refusal)
     yield "%s: a reader that is gone" % line, without_reader(line, good), (5, False)
     yield "%s: a stream that doesn't wait" % line, pausing(line, good), run(path.split(), good + good)[:2]
 
@@ -274,10 +276,8 @@ def look_at_program(line, good):
         code, output, message = run(path, data)
         said = code == 0 or name == "referee.py" and code == 1 or says(name, message)
         found.append(("%s: %s, its message" % (line, what), said, True))
-        # no document at all is a stream, too
-        results[0] = output if not data.strip() else b"a refusal"
         if code == 0:
-            found.append(("%s: %s" % (line, what), output, results[count]))
+            found.append(("%s: %s" % (line, what), output, results.get(count, b"a refusal")))
         elif name not in ("tally", "referee.py"):  # these say of each claim whether it is refused
             whole = [b""] + [results[k] for k in range(1, count + 1)]
             found.append(("%s: %s, code %s" % (line, what, code), output in whole or output, True))
@@ -329,6 +329,9 @@ def main():
     for data in UNLAWFUL:
         code, output, message = run("catalogue/relabel 2 -1 4 3", data)
         expect("relabel of %r" % data, (code, output, says("relabel", message)), (1, b"", True))
+        if b"nonrealizable" in data:
+            code, output, message = run("neighbours/claim-to-brackets", data)
+            expect("brackets of %r" % data, (code, output, says("claim-to-brackets", message)), (1, b"", True))
     print("hostile: %d passed, %d failed" % (TALLY[True], TALLY[False]))
     return 1 if TALLY[False] or not TALLY[True] else 0
 

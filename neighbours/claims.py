@@ -88,6 +88,22 @@ def signs_of(document):
     return {(a, b, c): sign(when[b, c] - when[a, b]) for a, b, c in triples}
 
 
+def statement(claim, a, b, c, d, e, small, big):
+    """`lt` or `eq`, whichever the chirotope of a claim makes of two terms of the identity below: with a third term of
+    the sign of the small one, or with one that is 0. None where it makes neither of them, or these elements and terms
+    stand in no entry."""
+    if not b < c < d < e <= claim.document.elements or not 0 < a <= claim.document.elements or a in (b, c, d, e) or (
+            small == big):
+        return None
+    signs = []
+    for turn, term in zip((1, -1, 1), (((a, b, c), (a, d, e)), ((a, b, d), (a, c, e)), ((a, b, e), (a, c, d)))):
+        for p in term:
+            turn *= claim.chirotope[tuple(sorted(p))] * (-1) ** sum(x > y for x, y in combinations(p, 2))
+        signs.append(turn)
+    x, y, z = signs[small - 1], signs[big - 1], signs[5 - small - big]
+    return None if x == 0 or y != -x else {x: "lt", 0: "eq"}.get(z)
+
+
 def brackets(a, b, c, d, e):
     """The two brackets of each term of [abc][ade] - [abd][ace] + [abe][acd] = 0, as increasing triples."""
     terms = ((a, b, c), (a, d, e)), ((a, b, d), (a, c, e)), ((a, b, e), (a, c, d))

@@ -1,11 +1,13 @@
 #!/usr/bin/env python3
-"""referee.py < CLAIMS : what `om check` says of a claim, by the definitions and by nothing of om's code.
+"""referee.py < CLAIMS : what `om-each check` says of claims, by the definitions and by nothing of om's code.
 
-Each claim, a document and a verdict block (docs/FORMATS.md), gets the line that `om check` prints. The exit code is 0
-where all are valid, 1 where one is refused. A text that is no claim is refused on standard error with code 2, and so
-is one on circuits, cocircuits or covectors: `om convert chirotope` turns these into a document that is read. There is
-no limit on the length of a text. This file stands alone: its first half reads the format, its second half judges.
-Python's standard library alone.
+Each claim, a document and a verdict block (docs/FORMATS.md), gets the line that `om-each check` prints. A claim that
+can't be read gets `refused line L CODE`, too, and the next one is read; what is wrong with it is said on standard
+error. The exit code is 0 where all are valid, 1 where one isn't, and 2 where there are words: it takes none. Two
+things differ. A claim on circuits, cocircuits or covectors isn't read, and gets the line `unread KIND` (`om convert
+chirotope` turns its document into one that is read). A stream of nothing, or with a line of more than 2^20 bytes, ends
+there with 1. This file stands alone: its first half reads the format, its second half judges. Python's standard
+library alone.
 """
 import os
 import re
@@ -16,92 +18,162 @@ from math import comb
 
 # ---- The format
 
+KINDS = ("chirotope", "points", "wiring", "circuits", "cocircuits", "covectors")
+LONGEST = 2**20
+NAME, PLAIN, BLOCK = re.compile("[A-Za-z0-9_]{1,16}"), "0|[1-9][0-9]{0,5}", "(0|[1-9][0-9]{0,2})-(0|[1-9][0-9]{0,2})"
 # What the words of a line of a block are: whole numbers, each from a least to a greatest one, or one of some words.
-ELEMENT, TERM, COORDINATE, PLAIN = (1, 20), (1, 3), (-2**40, 2**40), (0, 999999)
+ELEMENT, TERM, COORDINATE, NUMBER = (1, 20), (1, 3), (-2**40, 2**40), (0, 999999)
 STAGE = {"price", "column", "update", "scale"}
 ENTRY = [ELEMENT] * 5 + [TERM] * 2 + [(1, 2**63)]
 FORMS = {"vector": [COORDINATE] * 3, "lt": ENTRY, "eq": ENTRY, "weight": [ELEMENT] * 3 + [(-2**100, 2**100)],
-         "exhausted": [], "frontier": [],
+         "exhausted": [], "frontier": [], "end": [],
          "pivots": [(0, 10**6)],
-         "width": [STAGE, (0, 10**6 + 1), (0, 65535), PLAIN]}  # and `basis`, which has one number or more
-# Which lines a block has behind its verdict, by their first words.
-SEARCH = "(exhausted |frontier (vector ){0,20})"
-BLOCKS = {"realizable": "(vector ){0,20}", "nonrealizable": "((lt|eq) )*", "undecided": "(weight ){0,1140}" + SEARCH,
-          "limit": "(pivots basis |width )" + SEARCH}
+         "width": [STAGE, (0, 10**6 + 1), (0, 65535), NUMBER]}  # and `basis`, which has one number or more
+# Which lines a block has behind its verdict, by their first words: those that may come next, and what comes behind.
+NEXT = {"realizable": {"vector": "realizable", "end": "over"},
+        "nonrealizable": {"lt": "nonrealizable", "eq": "nonrealizable", "end": "over"},
+        "undecided": {"weight": "undecided", "exhausted": "exhausted", "frontier": "frontier"},
+        "limit": {"pivots": "pivots", "width": "searched"}, "pivots": {"basis": "searched"},
+        "searched": {"exhausted": "exhausted", "frontier": "frontier"},
+        "exhausted": {"end": "over"}, "frontier": {"vector": "frontier", "end": "over"}}
+VERDICTS, MOST = ("realizable", "nonrealizable", "undecided", "limit"), {"vector": 20, "weight": 1140}
 Claim = namedtuple("Claim", "kind rank elements names sets body verdict lines")
 
 
-class NoClaim(Exception):
-    """What is wrong with a text that is no claim."""
+class Fault(Exception):
+    """The code of the first line at fault, and what is wrong with it."""
 
 
-def ask(holds, otherwise):
+class Unread(Exception):
+    """The kind of a document that isn't read here."""
+
+
+class Broken(Exception):
+    """Why a stream isn't read on."""
+
+
+def ask(holds, code, why=""):
     if not holds:
-        raise NoClaim(otherwise)
-
-
-def item(word, form):
-    if isinstance(form, set):
-        ask(word in form, "none of the words %s: %s" % (", ".join(sorted(form)), word))
-        return word
-    ask(re.fullmatch("0|-?[1-9][0-9]{0,39}", word) and form[0] <= int(word) <= form[1],
-        "not a number from %d to %d: %s" % (*form, word))
-    return int(word)
-
-
-def items(words, forms):
-    ask(len(words) == len(forms), "not %d words: %s" % (len(forms), " ".join(words)))
-    return [item(word, form) for word, form in zip(words, forms)]
+        raise Fault(code, why)
 
 
 def claims_of(file):
-    """The lines of each claim of a stream, as lists of words: it has two lines `end`."""
-    lines, ends = [], 0
-    for line in iter(lambda: file.readline(2**20 + 1), b""):
-        ask(len(line) <= 2**20, "a line of more than 2^20 bytes")
+    """The claims of a stream as om-each cuts it: the words of each line, and how many bytes there are. A claim ends
+    with its second line `end`, or before a line that begins with `om`, or where the stream ends."""
+    lines, size, ends, has_word = [], 0, 0, False
+    for line in iter(lambda: file.readline(LONGEST + 1), b""):
+        if len(line) > LONGEST:
+            raise Broken("a line of more than 2^20 bytes")
         words = re.findall("[^ \t\r\n]+", line.decode("latin-1").split("#", 1)[0])
-        lines, ends = lines + [words] if words else lines, ends + (words == ["end"])
+        if words[:1] == ["om"] and has_word:
+            yield lines, size
+            lines, size, ends, has_word = [], 0, 0, False
+        size, ends, has_word = size + len(line), ends + (words == ["end"]), has_word or bool(words)
+        if size <= LONGEST:
+            lines.append(words)
         if ends == 2:
-            yield lines
-            lines, ends = [], 0
-    ask(not lines, "the text breaks off")
+            yield lines, size
+            lines, size, ends, has_word = [], 0, 0, False
+    if has_word:
+        yield lines, size
 
 
-def read(lines):
-    """The claim that lines of words are."""
-    last = lines.index(["end"])
-    ask(last >= 2 and lines[0] in (["om", "1"], ["om", "2"]), "the first line is neither om 1 nor om 2")
-    second, (kind, *sizes), body, block = lines[0] == ["om", "2"], lines[1], lines[2:last], lines[last + 1:-1]
-    ask(kind in ("chirotope", "points", "wiring"), "not a document of a chirotope, of points or of a wiring: %s" % kind)
-    *rank, n = items(sizes, [(0, 20), ELEMENT] if kind == "chirotope" else [ELEMENT])
-    rank = rank[0] if rank else 3
-    ask(kind != "chirotope" or rank <= n and comb(n, rank) <= 12870, "no chirotope of rank %d on %d elements" %
-        (rank, n))
-    sets, names = list(combinations(range(1, n + 1), rank)), None
-    if second and body and body[0][0] == "names":
-        names = body.pop(0)[1:]
-        ask(len(names) == len(set(names)) == n and all(re.fullmatch("[A-Za-z0-9_]{1,16}", name) for name in names),
-            "not a name for each element")
-    if second and kind == "chirotope" and body and body[0][0] == "order":
-        if items(body.pop(0)[1:], [{"lex", "revlex"}]) == ["revlex"]:
-            sets.sort(key=lambda s: s[::-1])
-    if kind == "chirotope":
-        body = ["-0+".find(c) - 1 for words in body for word in words for c in word]
-        ask(len(body) == len(sets) and -2 not in body, "not %d signs" % len(sets))
-    elif kind == "points":
-        ask(len(body) == n, "not %d points" % n)
-        body = [items(words, FORMS["vector"]) for words in body]
-    else:
-        body = [items(word.split("-"), [(0, 999)] * 2) for words in body for word in words]
-        ask(len(body) <= 1024, "more than 1,024 blocks")
-    ask(block and len(block[0]) == 1 and block[0][0] in BLOCKS, "no verdict behind the document")
-    (verdict,), *rows = block
-    ask(re.fullmatch(BLOCKS[verdict], "".join(words[0] + " " for words in rows)), "lines that a block %s doesn't have" %
-        verdict)
-    rows = [(word, items(rest, FORMS.get(word, [PLAIN] * max(1, len(rest))))) for word, *rest in rows]
-    ask(all(word != "weight" or row[0] < row[1] < row[2] for word, row in rows),
-        "a weight of three elements that don't increase")
-    return Claim(kind, rank, n, names, sets, body, verdict, rows)
+class Reader:
+    """Reads a claim that is lines of words; `number` is that of the last line that was read."""
+
+    def __init__(self, lines):
+        self.lines, self.number = lines, 0
+
+    def next(self):
+        """The words of the next line that has some. The end of the text counts as the line after the last one."""
+        while self.number < len(self.lines):
+            self.number += 1
+            if self.lines[self.number - 1]:
+                return self.lines[self.number - 1]
+        self.number += 1
+        raise Fault("missing", "the text breaks off")
+
+    def claim(self):
+        first = self.next()
+        ask(first in (["om", "1"], ["om", "2"]), "version", "neither om 1 nor om 2")
+        kind, *sizes = self.next()
+        ask(kind in KINDS, "kind", "no kind of document: %s" % kind)
+        ask(len(sizes) == 1 + (kind == "chirotope") and all(re.fullmatch(PLAIN, word) for word in sizes), "header",
+            "not the sizes of %s" % kind)
+        n, rank = int(sizes[-1]), int(sizes[0]) if kind == "chirotope" else 3
+        ask(1 <= n <= 20, "elements %d" % n, "not 1 to 20 elements")
+        ask(kind != "chirotope" or rank <= n, "rank %d" % rank, "a rank above the number of elements")
+        ask(kind != "chirotope" or comb(n, rank) <= 12870, "size %d" % comb(n, rank), "more than 12,870 values")
+        if kind in KINDS[3:]:
+            raise Unread(kind)
+        sets, (names, words) = list(combinations(range(1, n + 1), rank)), (None, self.next())
+        if first == ["om", "2"]:
+            if words[0] == "names":
+                names, words = words[1:], self.next_of(len(words) - 1 == len(set(words[1:])) == n
+                                                       and all(map(NAME.fullmatch, words[1:])), "names")
+            if words[0] == "order" and kind == "chirotope":
+                if words[1:] == ["revlex"]:
+                    sets.sort(key=lambda s: s[::-1])
+                words = self.next_of(words[1:] in (["lex"], ["revlex"]), "order")
+            ask(words[0] not in ("names", "order", "half"), "setting", "%s can't stand here" % words[0])
+        body = self.body(kind, len(sets) if kind == "chirotope" else n if kind == "points" else 1024, words)
+        return Claim(kind, rank, n, names, sets, body, *self.block())
+
+    def next_of(self, holds, what):
+        """The line behind a setting, which has to hold."""
+        ask(holds, "setting", "not %s that can stand here" % what)
+        return self.next()
+
+    def body(self, kind, most, words):
+        """The signs, points or blocks from the line of these words on to the line `end`."""
+        body = []
+        while words != ["end"]:
+            if kind == "chirotope":
+                signs = ["-0+".find(c) - 1 for word in words for c in word]
+                ask(-2 not in signs, "sign", "none of + - 0 in %s" % " ".join(words))
+                body += signs
+            elif kind == "points":
+                body.append(items(words, FORMS["vector"], "number"))
+            else:
+                found = [re.fullmatch(BLOCK, word) for word in words]
+                ask(all(found), "block", "not blocks i-j: %s" % " ".join(words))
+                body += [(int(it[1]), int(it[2])) for it in found]
+            ask(len(body) <= most, "many", "more than %d" % most)
+            words = self.next()
+        ask(kind == "wiring" or len(body) == most, "few", "%d are wanted, and %d are there" % (most, len(body)))
+        return body
+
+    def block(self):
+        """The verdict, and the lines behind it up to `end`, each as its first word and its items."""
+        words, rows = self.next(), []
+        ask(len(words) == 1 and words[0] in VERDICTS, "claim", "no verdict: %s" % " ".join(words))
+        state = verdict = words[0]
+        while True:
+            word, *rest = self.next()
+            ask(word in NEXT[state], "entry", "%s can't stand here" % word)
+            forms = FORMS.get(word, [NUMBER] * max(1, len(rest)))
+            rows.append((word, items(rest, forms, "entry")))
+            ask(word != "weight" or rows[-1][1][0] < rows[-1][1][1] < rows[-1][1][2], "entry",
+                "three elements that don't increase")
+            ask(word not in MOST or sum(it == word for it, _ in rows) <= MOST[word], "many", "too many of %s" % word)
+            state = NEXT[state][word]
+            if state == "over":
+                return verdict, rows[:-1]
+
+
+def items(words, forms, code):
+    """The numbers and words that the words of a line are."""
+    ask(len(words) == len(forms), code, "not %d words: %s" % (len(forms), " ".join(words)))
+    return [item(word, form, code) for word, form in zip(words, forms)]
+
+
+def item(word, form, code):
+    if isinstance(form, set):
+        ask(word in form, code, "none of the words %s: %s" % (", ".join(sorted(form)), word))
+        return word
+    ask(re.fullmatch("0|-?[1-9][0-9]{0,39}", word) and form[0] <= int(word) <= form[1], code,
+        "not a number from %d to %d: %s" % (*form, word))
+    return int(word)
 
 
 # ---- The definitions
@@ -221,24 +293,41 @@ def judge(claim):
     return next(("refused " + why for why in reasons(claim) if why), "valid " + claim.verdict)
 
 
+def answers(file):
+    """The line for each claim of a stream, and what else there is to say of it."""
+    for lines, size in claims_of(file):
+        reader = Reader(lines)
+        try:
+            yield ("refused long", "more than 2^20 bytes") if size > LONGEST else (judge(reader.claim()), "")
+        except Fault as fault:
+            yield "refused line %d %s" % (reader.number, fault.args[0]), "line %d: %s" % (reader.number, fault.args[1])
+        except Unread as kind:
+            yield "unread %s" % kind, "a claim on %s isn't read; `om convert chirotope` writes a chirotope" % kind
+
+
 def say(why):
     if sys.stderr:
-        print("referee.py: %s" % why, file=sys.stderr, flush=True)
+        print("referee.py: %s" % ascii(why[:200])[1:-1], file=sys.stderr, flush=True)
 
 
 def main():
+    if sys.argv[1:]:
+        say("it takes no words: claims come from standard input")
+        return 2
     code, count = 0, 0
     try:
         for stream in 0, 1:  # a closed one is a fault, and one that doesn't wait would seem to end where it pauses
             os.set_blocking(stream, True)
-        for count, lines in enumerate(claims_of(sys.stdin.buffer), 1):
-            answer = judge(read(lines))
+        for count, (answer, why) in enumerate(answers(sys.stdin.buffer), 1):
             print(answer, flush=True)
-            code = max(code, int(answer.startswith("refused")))
-        ask(count, "there is no claim")
-    except NoClaim as why:
-        say(why)
-        code = 2
+            if why:
+                say("claim %d: %s" % (count, why))
+            code = max(code, int(not answer.startswith("valid")))
+        if not count:
+            raise Broken("there is no claim")
+    except Broken as why:
+        say("behind claim %d: %s" % (count, why) if count else str(why))
+        code = 1
     except OSError as fault:  # a read or a write that failed; nothing is written a second time
         say(fault.strerror)
         os._exit(5)
