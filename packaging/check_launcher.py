@@ -2,12 +2,13 @@
 """packaging/check_launcher.py
 
 Runs the launchers with standard error at a terminal and elsewhere, and compares output and exit code. At the terminal
-there have to be the hints that a person needs, and elsewhere nothing on standard error. Then it lets the launchers
-build, with a replacement for rt that takes the programs that are built here. This is tried if a program is missing,
-if a source is newer, if a proof fails, twice at once, and with words that need no build. The last line is 'launcher:
-N passed, M failed', and the exit code is 1 if one failed.
+there have to be the hints that a person needs, and elsewhere nothing on standard error; help that is asked for stands
+there in both places. Then it lets the launchers build, with a replacement for rt that takes the programs that are
+built here. This is tried if a program is missing, if a source is newer, if a proof fails, twice at once, and with words
+that need no build. The last line is 'launcher: N passed, M failed', and the exit code is 1 if one failed.
 """
 import os
+import re
 import select
 import shutil
 import subprocess
@@ -83,30 +84,83 @@ def run_on_terminal(tree, words, data=b"", typed=None, **more):
     return process.returncode, output, errors.replace(b"\r\n", b"\n")
 
 
+def bytes_of(*path):
+    with open(os.path.join(*path), "rb") as file:
+        return file.read()
+
+
+def commands(tree):
+    """The commands of the table, each with what it answers, what its words are, and an example."""
+    return [block.strip().split("\n") for block in bytes_of(tree, "completions", "commands.txt").decode().split("\n\n")
+            if not block.startswith("#")]
+
+
 def hints(tree):
     """What a person sees, and that it changes nothing else."""
     for words, data, hint in [
         (["./om", "accept"], UNIFORM, b""), (["./om", "accept"], b"om 1\nend\n", b""),
         (["./om", "make", "7", "--count=3"], b"", b""),
-        (["./om"], b"", b"  om lexext W ...\n"),
-        (["./om", "--help"], b"", b"  om convert chirotope|circuits|cocircuits|covectors\n"),
-        (["./om", "acept"], b"", b"om: acept is no command; the nearest is\n  om accept\n"),
+        (["./om"], b"", b"  om hull                         whether the oriented matroid is acyclic, and which"),
+        (["./om", "acept"], b"", b"om: acept is no command; the nearest is\n  om accept  "),
         (["./om", "conv", "circuits"], b"",
-         b"om: conv is no command; the nearest is\n  om convert chirotope|circuits|cocircuits|covectors\n"),
+         b"om: conv is no command; the nearest is\n  om convert chirotope|circuits|cocircuits|covectors  the same"),
         (["./om", "picture"], b"", b"om: picture is no command; these are\n  om accept\n"),
         (["./om", "extend", "3"], b"", b"om: the words aren't right; the command is\n  om extend [--first=K]\n"),
+        (["./om", "delete", "0"], b"", b"      E is an element, a number from 1 to 20"),
+        (["./om", "decide", "--box=5000"], b"", b"      K is a number from 1 to 1000 [6], T from 1 to"),
+        (["./om", "lexext", "4"], b"", b"om: a sign is missing in front of 4: +4 or -4\n"),
+        (["./om", "accept", "examples/nothing.om"], b"",
+         b"om: there is no file examples/nothing.om; documents come from standard input: om accept < FILE\n"),
+        (["./om", "nothing.om"], b"", b"om: there is no file nothing.om; documents come from standard input: om"),
+        (["./om", "check", "examples/pappus.om", "examples/pappus-vectors.om"], b"",
+         b"om: a claim holds its document, and comes from standard input: om check < CLAIM\n"),
+        (["./om", "accept", "examples/pappus.om", "examples/loops.om"], b"",
+         b"om: documents come from standard input, and many of them in one stream: cat FILES | om-each accept\n"),
         (["./om", "convert", "circuits", "examples/pappus.om"], b"",
          b"om: documents come from standard input: om convert circuits < examples/pappus.om\n"),
         (["./om", "examples/pappus.om"], b"",
          b"om: documents come from standard input: om accept < examples/pappus.om\n"),
         (["./om-each", "accept"], UNIFORM * 2, b""),
-        (["./om-each", "dul"], b"", b"om-each: dul is no command; the nearest is\n  om-each dual\n"),
+        (["./om-each", "dul"], b"", b"om-each: dul is no command; the nearest is\n  om-each dual  "),
         (["./om-each", "make", "7"], b"", b"om-each: make is no command; these are\n  om-each accept\n"),
     ]:
         plain, shown = run(tree, words, data), run_on_terminal(tree, words, data)
         expect("%s: the same" % words, shown[:2], plain[:2])
         expect("%s: nothing on standard error" % words, plain[2], b"")
         expect("%s: the hint" % words, (hint in shown[2], bool(shown[2])), (True, bool(hint)))
+    for words in (["--help"], ["-h"], ["help"], ["--version"], ["-V"], ["version"], ["help", "decide"], ["help", "x"],
+                  ["decide", "--help"], ["decide", "-h"], ["flip", "1", "--help"], ["check", "--version"],
+                  ["x", "--help"], ["make", "--help"]):
+        for launcher in "./om", "./om-each":
+            plain, shown = run(tree, [launcher, *words]), run_on_terminal(tree, [launcher, *words])
+            program = run(tree, ["crates/%s/out/%s" % ((launcher[2:].replace("-", "_"),) * 2), *words])
+            expect("%s %s: the program's answer" % (launcher, words), (plain[:2], shown[:2]), (program[:2],) * 2)
+            expect("%s %s: the same help" % (launcher, words), plain[2], shown[2])
+            version = b"%s: version " % launcher[2:].encode() + bytes_of(tree, "VERSION")
+            is_general = words[0] in ("--help", "-h", "help", "x") and "decide" not in words
+            is_no_command = words[0] == "make" and launcher == "./om-each"
+            if "ersion" in words[-1] or words[-1] == "-V":
+                expect("%s %s: the version" % (launcher, words), plain[2], version)
+            elif is_general or is_no_command:
+                lines = plain[2].split(b"\n")
+                starts = [b"  %s %s " % (launcher[2:].encode(), it.encode()) for it, _, _, _ in commands(tree)
+                          if launcher == "./om" or not it.startswith("make")]
+                found = [line for line in lines if line.startswith(tuple(starts))]
+                expect("%s %s: a line for each" % (launcher, words), (len(found), version in plain[2]),
+                       (len(starts), True))
+            else:
+                about = words[1] if words[0] == "help" else words[0]
+                wanted = next(it for it in commands(tree) if it[0].split()[0] == about)
+                expect("%s %s: the words and an example" % (launcher, words), plain[2].decode().count("\n"), 4)
+                expect("%s %s: its words" % (launcher, words),
+                       all(text in plain[2].decode() for text in wanted[:3]), True)
+    with open(os.path.join(tree, "man", "om.1")) as file:
+        synopsis = re.findall(r"^\.B om (.*)$", file.read().partition(".SH DESCRIPTION")[0], re.M)
+    expect("the synopsis of the manual page", [re.sub(r"\\f[A-Z]", "", it).replace("\\-", "-") for it in synopsis],
+           [it[0] for it in commands(tree)])
+    for text, _, _, line in commands(tree):
+        code, output, _ = run(tree, ["sh", "-c", "./" + line])
+        expect("the example of %s" % text, (code, len(output) > 6, line.split()[1]), (0, True, text.split()[0]))
     folder = os.open(tree, os.O_RDONLY)
     expect("a folder", run_on_terminal(tree, ["./om", "accept"], stdin=folder)[::2],
            (4, b"om: standard input is a folder, and can't be read; documents are read from a file: "
@@ -167,10 +221,14 @@ def builds(tree, room):
             shutil.rmtree(os.path.join(tree, "crates", crate, "out"), ignore_errors=True)
 
     for words in ["./om"], ["./om", "--help"], ["./om", "help"], ["./om", "acept"], ["./om-each", "make", "7"]:
-        expect("%s builds nothing" % words, run(tree, words, env=environment), (2, b"usage 1\n", b""))
+        said = b"" if words[-1] not in ("--help", "help") else run(TOP, ["./om", "--help"])[2]
+        expect("%s builds nothing" % words, run(tree, words, env=environment), (2, b"usage 1\n", said))
         code, output, errors = run_on_terminal(tree, words, env=environment)
         expect("%s on a terminal" % words, (code, output, b"om-each accept" in errors or b"om accept" in errors,
                                             built()), (2, b"usage 1\n", True, []))
+    for words in ["./om", "decide", "--help"], ["./om-each", "make", "-h"], ["./om", "lexext", "--version"]:
+        code, output, errors = run(tree, words, env=environment)
+        expect("%s builds nothing" % words, (code, output, len(errors) > 10, built()), (2, b"usage 2\n", True, []))
     lacking = dict(environment, PATH=os.pathsep.join(it for it in os.environ["PATH"].split(os.pathsep)
                                                      if not os.path.exists(os.path.join(it, "rt"))))
     if shutil.which("awk", path=lacking["PATH"]):
@@ -248,7 +306,7 @@ def main():
     with tempfile.TemporaryDirectory() as room:
         tree = os.path.join(room, "tree")
         os.makedirs(tree)
-        for name in "om", "om-each", "VERSION", "man", "examples", "packaging":
+        for name in "om", "om-each", "VERSION", "man", "completions", "examples", "packaging":
             path = os.path.join(TOP, name)
             if os.path.isdir(path):
                 shutil.copytree(path, os.path.join(tree, name))
