@@ -5,12 +5,15 @@ Runs the launchers with standard error at a terminal and elsewhere, and compares
 there have to be the hints that a person needs, and elsewhere nothing on standard error; help that is asked for stands
 there in both places. Then it lets the launchers build, with a replacement for rt that takes the programs that are
 built here. This is tried if a program is missing, if a source is newer, if a proof fails, twice at once, and with words
-that need no build. The last line is 'launcher: N passed, M failed', and the exit code is 1 if one failed.
+that need no build. Last it types into bash, zsh and fish, as far as they are installed, and looks at what they
+complete. The last line is 'launcher: N passed, M failed', and the exit code is 1 if one failed.
 """
 import os
+import pty
 import re
 import select
 import shutil
+import signal
 import subprocess
 import sys
 import tempfile
@@ -180,6 +183,71 @@ def hints(tree):
         expect("a full device", (process.returncode, process.stderr), (5, b""))
 
 
+def seen(shell, setup, typed, wanted):
+    """What a shell at a terminal shows for what is typed into it, until it has shown what is wanted."""
+    process, ours = pty.fork()
+    if not process:
+        os.chdir(TOP)
+        os.execvpe(shell[0], shell, dict(os.environ, TERM="dumb", PS1="$ ", INPUTRC="/dev/null"))
+    shown, end = "", time.monotonic() + 30
+    for text, ready in ((setup, "ready to type"), (typed, wanted)):
+        os.write(ours, text.encode())
+        shown = ""
+        while ready not in shown and time.monotonic() < end:
+            if select.select([ours], [], [], 0.1)[0]:
+                shown += re.sub(r"\x1b\[[0-9;?]*[A-Za-z]|[\r\x07]", "", os.read(ours, 65536).decode(errors="replace"))
+    os.kill(process, signal.SIGKILL)
+    os.waitpid(process, 0)
+    os.close(ours)
+    return shown
+
+
+def completes():
+    """What the shells complete, and that all three files are made of the table."""
+    made = subprocess.run([sys.executable, os.path.join(TOP, "completions", "make.py"), "--check"], capture_output=True)
+    expect("the completions are made of the table", (made.returncode, made.stdout), (0, b""))
+    ready = "; echo ready to' 'type\n"
+    bash = "bind 'set show-all-if-ambiguous on'; source completions/om.bash" + ready
+    zsh = "PS1='$ '; fpath=($PWD/completions $fpath); autoload -U compinit; compinit -D -u" + ready
+    as_bash = ("PS1='$ '; autoload -U +X compinit bashcompinit; compinit -D -u; bashcompinit; "
+               "source completions/om.bash" + ready)
+    rows = [("om dec\t", "om decide "), ("om decide --box=\t", "--box=6"), ("om decide --st\t", "--steps="),
+            ("om flip 18 \t", "19"), ("om accept < examples/pappus-po\t", "examples/pappus-points.om"),
+            ("om-each upg\t", "om-each upgrade ")]
+    for shell, setup in ((["bash", "--norc", "--noprofile", "-i"], bash), (["zsh", "-f", "-i"], zsh),
+                         (["zsh", "-f", "-i"], as_bash)):
+        if not shutil.which(shell[0]):
+            print("%s isn't installed: its completions are not looked at" % shell[0])
+            continue
+        for typed, wanted in rows:
+            if setup == as_bash and "<" in typed:
+                continue  # files are zsh's own there
+            shown = seen(shell, setup, typed, wanted)
+            expect("%s, %r: %s" % (shell[0], typed, shown), (wanted in shown, "not found" in shown), (True, False))
+    script = ('%ssource completions/om.bash; COMP_WORDS=("$@"); COMP_CWORD=$(($# - 1)); _om "$1"; '
+              'printf "%%s " "${COMPREPLY[@]}"')
+    for words, wanted in ((["om", ""], "accept member"), (["om-each", "m"], "member mutations "),
+                          (["om", "m"], "member mutations make "), (["om", "decide", "--box", "="], "6 "),
+                          (["om", "decide", "--box", "=", "7"], " "),
+                          (["om", "decide", "--box="], "--box=6 "), (["om", "flip", "18", ""], "19 20 "),
+                          (["om", "reorient", "x", "1"], "1 10 11"), (["om", "accept", ""], " "),
+                          (["om", "accept", "<", "ex"], " "), (["om", "make", "7", "--"], "--count= "),
+                          (["om", "paint", "RG", "2"], "2 20 "), (["om", "lexext", "+20", "-1"], "-1 -10")):
+        for without in "", "enable -n compopt; ":
+            ended = subprocess.run(["bash", "-c", script % without, "om", *words], cwd=TOP, capture_output=True,
+                                   text=True)
+            expect("bash %s%s" % (without, words), (ended.stdout.startswith(wanted), ended.stderr), (True, ""))
+    if not shutil.which("fish"):
+        print("fish isn't installed: its completions are not looked at")
+        return
+    for typed, wanted in (("om dec", "decide\t"), ("om decide --box=", "--box=6\n"), ("om flip 18 ", "19\n20\n"),
+                          ("om accept ", ""), ("om-each ma", "mutations"),
+                          ("om accept < examples/pappus-po", "examples/")):
+        ended = subprocess.run(["fish", "-N", "-c", 'source completions/om.fish; complete -C "%s"' % typed], cwd=TOP,
+                               capture_output=True, text=True)
+        expect("fish, %r" % typed, (ended.stdout[:len(wanted)] or ended.stdout, ended.stderr), (wanted, ""))
+
+
 def builds(tree, room):
     """What is built, and when."""
     os.mkdir(os.path.join(room, "bin"))
@@ -318,6 +386,7 @@ def main():
         hints(tree)
         shutil.rmtree(os.path.join(tree, "crates"))
         builds(tree, room)
+    completes()
     print("launcher: %d passed, %d failed" % (TALLY[True], TALLY[False]))
     return 1 if TALLY[False] or not TALLY[True] else 0
 
