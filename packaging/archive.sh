@@ -21,12 +21,17 @@ mkdir -p "$to" "$tree/crates/om/out" "$tree/crates/om_each/out"
 cp "$here/crates/om/out/om" "$tree/crates/om/out/"
 cp "$here/crates/om_each/out/om_each" "$tree/crates/om_each/out/"
 cd "$here"
-cp -P om om-each install.sh README.md CHANGELOG.md LICENSE-* CITATION.cff VERSION "$tree/"
+cp -P om om-each install.sh README.md CONTRIBUTING.md CHANGELOG.md LICENSE-* CITATION.cff VERSION "$tree/"
 for folder in man completions neighbours catalogue examples rows; do
   [ ! -d "$folder" ] || cp -R "$folder" "$tree/"
 done
 mkdir "$tree/docs"
 cp docs/*.md "$tree/docs/"
+# the pages link to those of the crates
+for page in crates/*/README.md; do
+  mkdir -p "$tree/${page%/*}"
+  cp "$page" "$tree/$page"
+done
 find "$tree" -name __pycache__ -prune -exec rm -rf {} +
 commit=$(git rev-parse HEAD 2>/dev/null || echo unknown)
 [ -z "$(git status --porcelain 2>/dev/null)" ] || commit="$commit, and changes to it that aren't committed"

@@ -4,8 +4,8 @@
 # edits, in a folder for the time being. It proves as many side by side as there are processors and 4 GB of memory for
 # each (RT_JOBS is another number), those first for which most others wait, and keeps beside the toolchain what is
 # proved, for later calls and for the gate. Else rt builds in place, and so it does where nothing can be kept there; it
-# keeps its work in crates/*/out then. How far it is goes to standard error where that is a terminal. Where a proof
-# fails, what rt says of that crate goes there, and the exit code is 1.
+# keeps its work in crates/*/out then. How far it is, and which crates are at work, goes to standard error where that is
+# a terminal. Where a proof fails, what rt says of that crate goes there, and the exit code is 1.
 set -u
 here=$(cd "$(dirname "$(readlink -f "${BASH_SOURCE[0]}")")/.." && pwd) || exit 1
 [ $# -gt 0 ] || set -- om om_each
@@ -23,9 +23,20 @@ log=$room/log tree=$room/tree running=
 start=$room/start
 touch "$log" "$start"
 trap 'rm -rf "$room"' EXIT
-# rt runs in the background, where Ctrl-C doesn't reach it; when it ends, so do the checks that it has started
-trap '[ -z "$running" ] || { kill "$running"; wait "$running"; } 2>/dev/null; exit 130' INT TERM HUP
+# rt runs in the background, where Ctrl-C doesn't reach it; when it ends, so do the checks that it has started. The
+# folder has thousands of files, whose removal isn't waited for.
+stop() {
+  trap - EXIT
+  trap '' INT TERM HUP
+  [ -z "$running" ] || { kill -KILL "$running"; wait "$running"; } 2>/dev/null
+  rm -rf "$room" </dev/null >/dev/null 2>&1 &
+  exit 130
+}
+trap stop INT TERM HUP
 began=$(date +%s)
+width=80
+[ ! -t 2 ] || width=$(stty size <&2 2>/dev/null | awk '$2 > 20 { print $2; exit } END { if (!NR) print 80 }')
+width=${width:-80}
 
 # The crates that a program stands on, and itself.
 crates_of() {
@@ -75,11 +86,19 @@ sweep() {
   done
 }
 
-# Says how far it is, in one line that is written over.
+# Says how far it is, in one line that is written over, and which crates are at work, as far as the line has room.
 show() {
   [ -t 2 ] || return 0
-  local spent=$(($(date +%s) - began))
-  printf '\r\033[Kom: %s, %d min %02d s' "$1" $((spent / 60)) $((spent % 60)) >&2
+  local spent=$(($(date +%s) - began)) room_left line
+  line=$(printf 'om: %s, %d min %02d s' "$1" $((spent / 60)) $((spent % 60)))
+  room_left=$((width - ${#line} - 3))
+  [ -z "${2-}" ] || [ "$room_left" -lt 12 ] || line="$line: ${2:0:room_left}"
+  printf '\r\033[K%s' "$line" >&2
+}
+
+# The crates at work: those in whose folders programs of rt run.
+at_work() {
+  ls -l /proc/[0-9]*/cwd 2>/dev/null | sed -n "s|^.* -> $1/crates/\([a-z_]*\)$|\1|p" | sort -u | paste -sd' ' -
 }
 
 # How many crates are done, and the last one: of rt ci each line of a proof, of rt all each head.
@@ -96,11 +115,15 @@ attend() {
   (cd "$folder" && exec rt "$@") >"$log" 2>&1 </dev/null &
   running=$!
   while kill -0 "$running" 2>/dev/null; do
-    case $what in
-      ci | all) show "$(proved "$what")" ;;
-      *) show "$what" ;;
-    esac
-    sleep 0.3
+    if [ -t 2 ]; then
+      case $what in
+        ci | all) show "$(proved "$what")" "$(at_work "${folder%/crates/*}")" ;;
+        *) show "$what" ;;
+      esac
+    fi
+    # a signal is answered at once, and not when a sleep is over
+    sleep 0.3 &
+    wait $!
   done
   wait "$running"
   local status=$?

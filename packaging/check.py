@@ -3,10 +3,11 @@
 
 Makes an archive of the built programs, unpacks it in a folder of its own, and runs every command after a `$` in its
 README there, with a path without the toolchain. Then it installs from the unpacked archive, under a PREFIX and with
-DESTDIR, and runs what was installed. The last line is 'packaging: N passed, M failed', and the exit code is 1 if one
-failed.
+DESTDIR, runs what was installed, looks up the links of its pages, and takes it away again. The last line is
+'packaging: N passed, M failed', and the exit code is 1 if one failed.
 """
 import os
+import re
 import shutil
 import subprocess
 import sys
@@ -50,6 +51,56 @@ def run(words, data, environment, **more):
     return ended.returncode, ended.stdout, ended.stderr
 
 
+def broken_links(where):
+    """The links of the pages below a folder that lead nowhere."""
+    found = []
+    for at, _, names in os.walk(where):
+        for name in names:
+            if name.endswith(".md"):
+                with open(os.path.join(at, name)) as file:
+                    text = re.sub(r"^```.*?^```", "", file.read(), flags=re.S | re.M)
+                found += ["%s: %s" % (name, target) for target in re.findall(r"\]\(([^)#\s]+)", text)
+                          if "://" not in target and not os.path.exists(os.path.join(at, target))]
+    return found
+
+
+def files_below(where):
+    """The files and links below a folder, without the modules that Python compiles when they are used."""
+    return sorted(os.path.relpath(os.path.join(at, name), where) for at, folders, names in os.walk(where)
+                  for name in names + [it for it in folders if os.path.islink(os.path.join(at, it))]
+                  if "__pycache__" not in at)
+
+
+def look_at_removal(where, environment):
+    """The list of what was installed is exact; what isn't installed any more is removed by the next install.sh, and all
+    of it by --uninstall, but nothing else."""
+    install, listed = os.path.join(TOP, "install.sh"), os.path.join(where, "share", "om", "installed.txt")
+    with open(listed) as file:
+        lines = file.read().split("\n")[:-1]
+    expect("the list of what is installed", sorted(lines), files_below(where))
+    for name in "mine", "earlier":
+        with open(os.path.join(where, "share", "om", name), "w"):
+            pass
+    with open(listed, "a") as file:
+        file.write("share/om/earlier\n../../outside\n")
+    outside = os.path.join(os.path.dirname(where), "outside")
+    with open(outside, "w"):
+        pass
+    expect("install anew", run([install, where], b"", environment)[0], 0)
+    found = [os.path.exists(os.path.join(where, "share", "om", it)) for it in ("mine", "earlier", "om")]
+    expect("what isn't there any more", found + [os.path.exists(outside)], [True, False, True, True])
+    for at, folders, _ in os.walk(where):
+        for name in folders:
+            if name == "__pycache__":
+                shutil.rmtree(os.path.join(at, name))
+    expect("uninstall", run([install, "--uninstall", where], b"", environment)[::2], (0, b""))
+    expect("what is left", files_below(where), ["share/om/mine"])
+    expect("folders that are left", sorted(os.listdir(where)), ["share"])
+    expect("nothing to uninstall", run([install, "--uninstall", where], b"", environment)[0], 1)
+    for words in ([""], ["--uninstall", ""], ["--no"], ["a", "b"], ["--uninstall", "a", "b"]):
+        expect("install.sh %s" % words, run([install, *words], b"", environment)[:2], (2, b""))
+
+
 def main():
     with tempfile.TemporaryDirectory() as room:
         subprocess.run([os.path.join(TOP, "packaging", "archive.sh"), room], check=True, stdout=subprocess.DEVNULL,
@@ -70,6 +121,7 @@ def main():
         expect("what they need", proved[2].startswith("for x86-64 and Linux with a C library that has GLIBC_2."), True)
         expect("the programs' checksums", run(["sha256sum", "-c"], "\n".join(proved[3:] + [""]).encode(), environment,
                                               cwd=tree)[0], 0)
+        expect("links of the archive", broken_links(tree), [])
         with open(os.path.join(tree, "README.md")) as file:
             text = file.read()
         for command, wanted in sessions(text):
@@ -93,9 +145,17 @@ def main():
                        (0, b"accepted\n" * 2, b""))
             os.remove(link)
             for file in ("man/man1/om.1", "man/man1/om-each.1", "bash-completion/completions/om",
-                         "bash-completion/completions/om-each", "om/neighbours/om.py", "doc/om/README.md",
-                         "doc/om/docs/FORMATS.md", "doc/om/PROVED"):
+                         "bash-completion/completions/om-each", "zsh/site-functions/_om",
+                         "fish/vendor_completions.d/om.fish", "om/neighbours/om.py",
+                         "om/neighbours/python/pyproject.toml", "doc/om/README.md", "doc/om/docs/FORMATS.md", "doc/om/PROVED"):
                 expect("%s in %s" % (file, where), os.path.isfile(os.path.join(where, "share", file)), True)
+            expect("links in " + where, broken_links(where), [])
+            expect("no checks in " + where, [it for it in files_below(where) if re.search("/check[^/]*[.]py$", it)], [])
+            code, output, errors = run([program, "help", "decide"], b"", environment)
+            expect("help in " + where, (code, output, b"om decide < examples/non-pappus.om" in errors),
+                   (2, b"usage 1\n", True))
+            expect("the version in " + where, run([each, "--version"], b"", environment)[2],
+                   b"om-each: version %s\n" % version.encode())
             lists = os.path.join(where, "share", "om", "neighbours", "om-to-lists")
             expect("a filter in " + where, run([lists], UNIFORM, environment)[:2], (0, b"[1, 1, 1, 1]\n"))
             module = ("import sys; sys.path.insert(0, sys.argv[1]); from om import *; "
@@ -104,6 +164,7 @@ def main():
                                                  environment)[1], b"True\n")
         expect("no file of the install has the first folder's name",
                subprocess.run(["grep", "-rlF", tree, prefix], stdout=subprocess.PIPE).stdout, b"")
+        look_at_removal(prefix, environment)
     print("packaging: %d passed, %d failed" % (TALLY[True], TALLY[False]))
     return 1 if TALLY[False] or not TALLY[True] else 0
 

@@ -30,7 +30,7 @@ case $1 in
   doc) echo "$PAGE" ;;
   ci)
     echo "ci:$(ls crates | paste -sd+)" >>"$BUILT"
-    [ -z "${WAITS-}" ] || exec sleep 20
+    [ -z "${WAITS-}" ] || { cd crates/om_text && exec sleep 20; }
     ls -d crates/*/must-fail crates/*/out 2>/dev/null && exit 2
     for crate in om_signs om_rows om_text om_pieces om_program om om_each; do
       [ -f "crates/$crate/src/lib.rt" ] && grep -q "^$crate:" crates.txt || continue
@@ -270,6 +270,7 @@ def builds(tree, room):
         file.write("# crates\nom_signs:\nom_rows: om_signs\nom_text: om_signs itoa\nom_pieces: om_text\n"
                    "om_tests: om_text\nom_program: om_text om_rows om_pieces\nom: om_program\nom_each: om_program\n")
     of_om = "ci:om+om_pieces+om_program+om_rows+om_signs+om_text"
+    of_both = of_om.replace("om+", "om+om_each+", 1)
 
     def built():
         if not os.path.exists(calls):
@@ -278,6 +279,13 @@ def builds(tree, room):
             found = file.read().split()
         os.remove(calls)
         return found
+
+    def emptied(folder):
+        # what is stopped doesn't wait for the removal
+        end = time.monotonic() + 20
+        while os.listdir(folder) and time.monotonic() < end:
+            time.sleep(0.02)
+        return os.listdir(folder)
 
     def touch(crate):
         # the clock of the files may be coarse
@@ -306,11 +314,13 @@ def builds(tree, room):
     said = (b"\n== om_text\nfn f: not proved in %s/crates/om_text\n" % tree.encode() in errors, b"fn g" in errors,
             b"om_program" in errors, errors.endswith(b"om: the build failed\n"))
     expect("a proof that fails in a first build", (code, output, *said, built()),
-           (7, b"", True, False, False, True, [of_om]))
+           (7, b"", True, False, False, True, [of_both]))
     code, output, errors = run_on_terminal(tree, ["./om", "accept"], UNIFORM, env=environment)
-    found = (code, output, b"om: proving and building 6 crates" in errors, b"6 of 6 crates proved (om)" in errors,
+    found = (code, output, b"om: proving and building 7 crates" in errors, b"7 of 7 crates proved" in errors,
              b"om: proved and built" in errors, built())
-    expect("a first call builds side by side", found, (0, b"accepted\n", True, True, True, [of_om]))
+    expect("a first call builds both side by side", found, (0, b"accepted\n", True, True, True, [of_both]))
+    expect("the first call of the other one builds nothing",
+           (run(tree, ["./om-each", "accept"], UNIFORM, env=environment), built()), ((0, b"accepted\n", b""), []))
     expect("the second one doesn't", (run(tree, ["./om", "accept"], UNIFORM, env=environment), built()),
            ((0, b"accepted\n", b""), []))
     touch("om_each")
@@ -339,7 +349,23 @@ def builds(tree, room):
         time.sleep(0.02)
     stopped.terminate()
     expect("one that is stopped", (stopped.wait(timeout=10), built()), (130, [of_om]))
-    expect("no folder is left behind", os.listdir(away), [])
+    expect("no folder is left behind", emptied(away), [])
+    ours, theirs = os.openpty()
+    stopped = subprocess.Popen(["packaging/build.sh", "om"], stdout=subprocess.PIPE, stderr=theirs, cwd=tree,
+                               env=dict(environment, WAITS="yes"))
+    shown, end = b"", time.monotonic() + 20
+    while b"om_text" not in shown and time.monotonic() < end:
+        if select.select([ours], [], [], 0.1)[0]:
+            shown += os.read(ours, 65536)
+    start = time.monotonic()
+    stopped.send_signal(signal.SIGINT)
+    found = stopped.wait(timeout=10), time.monotonic() - start < 2, built()
+    expect("one that is stopped at a terminal ends in two seconds", found, (130, True, [of_om]))
+    named = re.search(rb"om: 0 of 6 crates proved, 0 min \d\d s: om_text", shown)
+    expect("a crate at work is named, %r" % shown[-200:], named is None, False)
+    expect("no folder is left behind then", emptied(away), [])
+    os.close(ours)
+    os.close(theirs)
     # where rt can't keep what is proved, and where little is wanting, it builds in place
     unkept = dict(environment, PAGE="/no/such/kit/page")
     forget()
@@ -348,9 +374,10 @@ def builds(tree, room):
     code, output, errors = run(tree, ["./om", "accept"], UNIFORM, env=dict(unkept, FAILS="om_text"))
     expect("a proof that fails in place",
            (code, output, b"== om_text\nfn f: not proved\n" in errors, errors.endswith(b"om: the build failed\n"), built()),
-           (7, b"", True, True, ["all-om"]))
+           (7, b"", True, True, ["all-om_each"]))
     expect("in place", (run(tree, ["./om", "accept"], UNIFORM, env=unkept)[:2], built()),
-           ((0, b"accepted\n"), ["all-om", "run-om"]))
+           ((0, b"accepted\n"), ["all-om_each", "run-om", "run-om_each"]))
+    shutil.rmtree(os.path.join(tree, "crates", "om_each", "out"))
     for crate in "om_signs", "om_rows", "om_text", "om_pieces", "om_program":
         os.makedirs(os.path.join(tree, "crates", crate, "out", "rlib"), exist_ok=True)
         with open(os.path.join(tree, "crates", crate, "out", "rlib", "stamp"), "w"):
