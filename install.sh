@@ -94,7 +94,7 @@ put_as "$here/completions/_om" share/zsh/site-functions/_om
 put_as "$here/completions/om.fish" share/fish/vendor_completions.d/om.fish
 point om.fish share/fish/vendor_completions.d/om-each.fish
 put 644 share/om "$here/completions/commands.txt" "$here/VERSION" "$here"/LICENSE-*
-for folder in neighbours neighbours/python catalogue examples; do
+for folder in neighbours neighbours/python catalogue pictures examples; do
   # the checks there are for a copy of the repository
   for file in "$here/$folder"/*; do
     case ${file##*/} in check*.py | refusals.txt) ;; *) put as "share/om/$folder" "$file" ;; esac
@@ -110,7 +110,7 @@ put 644 share/doc/om/docs "$here"/docs/*.md
 for crate in "$here"/crates/*; do
   put 644 "share/doc/om/crates/${crate##*/}" "$crate/README.md"
 done
-for folder in neighbours catalogue examples; do
+for folder in neighbours catalogue pictures examples; do
   point "../../om/$folder" "share/doc/om/$folder"
 done
 echo share/om/installed.txt >>"$new"

@@ -22,7 +22,7 @@ cp "$here/crates/om/out/om" "$tree/crates/om/out/"
 cp "$here/crates/om_each/out/om_each" "$tree/crates/om_each/out/"
 cd "$here"
 cp -P om om-each install.sh README.md CONTRIBUTING.md CHANGELOG.md LICENSE-* CITATION.cff VERSION "$tree/"
-for folder in man completions neighbours catalogue examples rows; do
+for folder in man completions neighbours catalogue pictures examples rows; do
   [ ! -d "$folder" ] || cp -R "$folder" "$tree/"
 done
 mkdir "$tree/docs"

@@ -158,6 +158,9 @@ def main():
                    b"om-each: version %s\n" % version.encode())
             lists = os.path.join(where, "share", "om", "neighbours", "om-to-lists")
             expect("a filter in " + where, run([lists], UNIFORM, environment)[:2], (0, b"[1, 1, 1, 1]\n"))
+            disk = os.path.join(where, "share", "om", "pictures", "to-svg")
+            code, picture, _ = run([disk, "disk"], UNIFORM, environment)
+            expect("a picture in " + where, (code, picture[:4], picture.count(b'class="w ')), (0, b"<svg", 4))
             module = ("import sys; sys.path.insert(0, sys.argv[1]); from om import *; "
                       "print(Workbench().accept(Document.chirotope(3, 4, '++++')))")
             expect("the module in " + where, run([sys.executable, "-c", module, os.path.dirname(lists)], b"",
