@@ -6,11 +6,12 @@ compares the signs with those of `om convert chirotope`. Maps are drawn exactly 
 are refused, and so is bad input. What sweepable writes has a wiring diagram by om. Where other versions of Python are
 installed, the pictures have to be the same bytes by them; rsvg-convert makes a PDF with text in it; and Chromium, if
 it is there, shows all words without overlaps. The last line is 'pictures: N passed, M failed', and the exit code is 1
-if one failed. With --whole many more documents are drawn, on all processors, and counted.
+if one failed. With --whole many more documents are drawn, on half of the processors, and counted.
 """
 import concurrent.futures
 import glob
 import gzip
+import html.parser
 import importlib.machinery
 import importlib.util
 import io
@@ -33,6 +34,7 @@ import readback  # noqa: E402
 from filters import Refused, WrongWords  # noqa: E402
 from readback import Fault, wanted  # noqa: E402
 
+OM = os.path.join(TOP, "crates", "om", "out", "om")
 EACH = os.path.join(TOP, "crates", "om_each", "out", "om_each")
 TALLY = {True: 0, False: 0}
 MOST_BYTES = 10000  # of a picture of ten elements
@@ -78,6 +80,10 @@ BAD = [
     ("sweepable", b"om 1\nchirotope 2 2\n+\nend\n", 1, "the rank is 2"),
     ("sweepable", b"om 1\nchirotope 3 5\n+-++++++++\nend\n", 1, "`om accept` names the violated instance"),
     ("sweepable --back", UNIFORM, 2, "wrong words"),
+    ("gallery", b"", 1, "missing: the input has no document"),
+    ("gallery", UNIFORM + b"om 1\nchirotope 3 5\n+-++++++++\nend\n", 1, "document 2: the signs aren't"),
+    ("gallery --sheet", UNIFORM, 2, "wrong words: `--sheet`"),
+    ("gallery points --triangles", VECTORS, 2, "triangles are filled in a wiring or a disk"),
 ]
 
 
@@ -204,6 +210,12 @@ def random_points(n, rng, long_names=False):
     return "om 2\npoints %d\nnames %s\n%s\nend\n" % (n, names, "\n".join("%d %d %d" % tuple(row) for row in rows))
 
 
+def made(number, count):
+    """The points that `om make` gives."""
+    answer = subprocess.run([OM, "make", str(number), "--count=%d" % count], stdout=subprocess.PIPE)
+    return without_verdict(answer.stdout.decode())
+
+
 def random_map(k, rng):
     """A map of triples: signs of vectors, or these with one changed, or any signs."""
     n = rng.choice((3, 4, 4, 5, 5, 6))
@@ -248,7 +260,7 @@ def groups_of(whole):
     planes = [random_points(4 + k % 9, rng) for k in range(120 if whole else 18)]
     crowds = [random_points(20, rng, True) for _ in range(4 if whole else 1)]
     if whole:
-        planes += [without_verdict(each("make %d --count=%d" % (k, 4 + k % 9), "")) for k in range(120)]
+        planes += [made(k, 4 + k % 9) for k in range(120)]
     planes, crowds = ([text for text in texts if each("accept", text) == "accepted\n"] for texts in (planes, crowds))
     return [
         ("the examples, disk", "disk --triangles", examples),
@@ -277,7 +289,7 @@ def groups_of(whole):
 
 def pictures(whole):
     """Pictures of all forms have the signs that om gives."""
-    with concurrent.futures.ProcessPoolExecutor(os.cpu_count() if whole else 1) as pool:
+    with concurrent.futures.ProcessPoolExecutor((os.cpu_count() + 1) // 2) as pool:
         for name, words, texts in groups_of(whole):
             found = cases(texts)
             faults = list(pool.map(checked, [(case, words) for case in found])) if whole else [
@@ -461,6 +473,93 @@ def sheets():
         expect("to-svg %s" % words, not fault, fault)
 
 
+# colour blindness as a map of linear red, green and blue: protanopia, deuteranopia, tritanopia (Machado, Oliveira and
+# Fernandes, 2009), and normal sight
+SIGHTS = (((0.152286, 1.052583, -0.204868), (0.114503, 0.786281, 0.099216), (-0.003882, -0.048116, 1.051998)),
+          ((0.367322, 0.860646, -0.227968), (0.280085, 0.672501, 0.047413), (-0.011820, 0.042940, 0.968881)),
+          ((1.255528, -0.076749, -0.178779), (-0.078411, 0.930809, 0.147602), (0.004733, 0.691367, 0.303900)),
+          ((1, 0, 0), (0, 1, 0), (0, 0, 1)))
+
+
+def linear(colour):
+    """The linear red, green and blue of a colour as it is written."""
+    parts = [int(colour[k:k + 2], 16) / 255 for k in (1, 3, 5)]
+    return [x / 12.92 if x <= 0.04045 else ((x + 0.055) / 1.055) ** 2.4 for x in parts]
+
+
+def lab(rgb):
+    """The place of a linear colour in CIE Lab."""
+    rows = ((0.4124, 0.3576, 0.1805, 0.9505), (0.2126, 0.7152, 0.0722, 1), (0.0193, 0.1192, 0.9505, 1.089))
+    x, y, z = (sum(a * b for a, b in zip(row, rgb)) / row[3] for row in rows)
+    x, y, z = (t ** (1 / 3) if t > 0.008856 else 7.787 * t + 16 / 116 for t in (x, y, z))
+    return 116 * y - 16, 500 * (x - y), 200 * (y - z)
+
+
+def colours():
+    """The colours of a picture are apart for all kinds of sight, and from white and black; in grey odd ones are
+    darker."""
+    svg = draw("", "om 1\nwiring 6\n1-2\n2-3\n1-2\n3-4\n2-3\n1-2\n4-5\n3-4\n2-3\n1-2\n5-6\n4-5\n3-4\n2-3\n1-2\nend\n")
+    used = [re.search('class="w e%d".*stroke="(.*?)"' % e, svg)[1] for e in range(1, 7)]
+    for sight in SIGHTS:
+        seen = [lab([min(1, max(0, sum(a * b for a, b in zip(row, linear(colour))))) for row in sight])
+                for colour in used]
+        least = min(sum((a - b) ** 2 for a, b in zip(p, q)) ** 0.5 for p, q in combinations(seen, 2))
+        expect("colours that are apart", least >= 21, str(least))
+    lights = [sum(a * b for a, b in zip((0.2126, 0.7152, 0.0722), linear(colour))) for colour in used]
+    expect("contrast", all(1.05 / (light + 0.05) >= 3 and (light + 0.05) / 0.05 >= 3 for light in lights), str(lights))
+    expect("greys", max(lights[::2]) < min(lights[1::2]), str(lights))
+
+
+class Outline(html.parser.HTMLParser):
+    """The tags of a page, each closed in its turn, and the text of each `pre`."""
+
+    def __init__(self, text):
+        super().__init__()
+        self.open, self.used, self.texts = [], [], []
+        self.feed(text)
+        self.close()
+
+    def handle_starttag(self, tag, attrs):
+        self.used.append(tag)
+        if tag != "meta":
+            self.open.append(tag)
+        if tag == "pre":
+            self.texts.append("")
+
+    def handle_startendtag(self, tag, attrs):
+        self.used.append(tag)
+
+    def handle_endtag(self, tag):
+        wanted(self.open and self.open.pop() == tag, "the tag %s isn't closed in its turn", tag)
+
+    def handle_data(self, data):
+        if self.open and self.open[-1] == "pre":
+            self.texts[-1] += data
+
+
+def galleries():
+    """A gallery has a picture and the text of each claim, and loads nothing."""
+    claims = classes(4, 5) + documents_in(text_of("catalogue", "nonrealizable-9.claims"))[::100]
+    code, out, said = run("gallery --title=Some<claims>", "".join(claims).encode())
+    try:
+        wanted(code == 0, "%s", said)
+        page = out.decode()
+        outline = Outline(page)
+        wanted(not outline.open, "open tags: %s", outline.open)
+        wanted(not {"script", "img", "link", "iframe"} & set(outline.used) and "http" not in page.replace(
+            "http://www.w3.org/2000/svg", ""), "something is loaded")
+        wanted("<h1>Some&lt;claims&gt;</h1>" in page, "no title")
+        wanted(outline.texts == claims, "other texts")
+        pictures_in = re.findall("<svg.*?</svg>", page, re.S)
+        wanted(len(pictures_in) == len(claims), "%d pictures", len(pictures_in))
+        for case, svg in zip(cases(claims), pictures_in):
+            case.look(readback.Page(svg).groups[0])
+        fault = ""
+    except Fault as found:
+        fault = str(found)
+    expect("a gallery", not fault, fault)
+
+
 def other_pythons():
     """Other versions of Python draw the same bytes."""
     samples = [("to-svg disk --triangles", text_of("examples", "non-pappus.om")),
@@ -579,6 +678,8 @@ def main():
     refusals()
     sweepables(whole)
     sheets()
+    galleries()
+    colours()
     other_pythons()
     pdf()
     browser()

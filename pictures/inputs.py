@@ -1,7 +1,7 @@
 """inputs.py: what a picture is made of: documents and claims of rank 3. Python's standard library alone."""
 import os
 import sys
-from dataclasses import dataclass
+from dataclasses import dataclass, field
 from itertools import chain
 
 sys.path.insert(1, os.path.join(os.path.dirname(os.path.dirname(os.path.abspath(__file__))), "neighbours"))
@@ -17,29 +17,42 @@ KINDS = ("chirotope", "points", "wiring")
 
 @dataclass
 class Input:
-    """A document with its chirotope; its verdict where it is a claim; and the vectors of its elements where it has
-    some. Vectors of a claim realize the chirotope."""
+    """A document with its chirotope; where it is a claim its verdict and the lines of its evidence; and the vectors of
+    its elements where it has some. Vectors of a claim realize the chirotope; other evidence isn't looked at."""
     document: Document
     chirotope: Chirotope
     verdict: str = ""
+    evidence: list = field(default_factory=list)
     vectors: dict = None
 
     def name(self, element):
         return self.document.names[element - 1] if self.document.names else str(element)
 
+    def text(self):
+        """The document or claim without comments."""
+        lines = [self.verdict, *self.evidence, "end", ""] if self.verdict else []
+        return self.document.text() + "\n".join(lines)
+
     def add_verdict(self, word, rest):
         """Takes a verdict block, of which `word` was read."""
         self.verdict = word
-        if word != "realizable":
-            for words in rest:
-                if words == ["end"]:
-                    return
-            raise Refused("missing: the input ends before the line `end` of the block")
-        _, lines = block(chain([[word]], rest), ("realizable",))
+        if word == "realizable":
+            self.add_vectors(rest)
+            return
+        for words in rest:
+            if words == ["end"]:
+                return
+            self.evidence.append(" ".join(words))
+        raise Refused("missing: the input ends before the line `end` of the block")
+
+    def add_vectors(self, rest):
+        """Takes the lines of a block `realizable`."""
+        _, lines = block(chain([["realizable"]], rest), ("realizable",))
         vectors = [tuple(numbers) for _, numbers in lines]
         if len(vectors) != self.document.elements or signs_of_vectors(vectors) != self.chirotope.signs:
             raise Refused("the vectors don't realize the chirotope (`om check` says where)")
         self.vectors = dict(enumerate(vectors, 1))
+        self.evidence = ["vector %d %d %d" % vector for vector in vectors]
 
 
 def inputs(file):

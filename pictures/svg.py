@@ -4,15 +4,16 @@ Coordinates are rounded to hundredths once, as whole numbers, so that the same p
 step of a path is taken from the rounded place before it. The y axis of a picture points down. Python's standard library
 alone.
 """
-from dataclasses import dataclass, field
+from dataclasses import dataclass
+from html import escape
 from math import sqrt
-from xml.sax.saxutils import escape
 
 from arithmetic import length, unit
 
 # Six colours that are apart for normal sight and for three kinds of colour blindness, by at least 21 in CIE Lab, and
-# that have a contrast of 3 or more with white and with black. From the seventh element on they come again with dashes.
-COLOURS = ("#0072B2", "#CC4400", "#00AA44", "#AA66FF", "#885555", "#DD6699")
+# that have a contrast of 3 or more with white and with black. In grey the odd ones are darker than the even ones. From
+# the seventh element on they come again with dashes.
+COLOURS = ("#0072B2", "#00AA44", "#CC4400", "#AA66FF", "#885555", "#DD6699")
 DASHES = ((), (5, 1.5), (5, 1.5, 1, 1.5), (1.5, 1.5))
 GREY, LIGHT, AMBER = "#7D7D7D", "#8F8F8F", "#E69F00"
 MINUS = "\u2212"
@@ -200,7 +201,7 @@ class Picture:
     body: list
     box: Box
     words: str = ""
-    title: str = field(default="")
+    title: str = ""
 
     def whole(self, document=""):
         """The text of the file, with the document that it shows."""
