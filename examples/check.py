@@ -3,7 +3,7 @@
 
 Runs every command after a `$` in the fenced blocks of the pages, and compares what it prints with what they say: a
 line `$ COMMAND` is a command, run at the top of the repository, and the lines up to the next one are its output.
-Commands of TOPCOM, nauty, GNU parallel, pv, Coq and polymake are left out if these aren't installed, and so are those
+Commands of TOPCOM, nauty, GNU parallel, pv, Coq, polymake and rsvg-convert are left out if these aren't installed, and so are those
 that read what they wrote. The last line is 'examples: N passed, M failed', and the exit code is 1 if one failed.
 """
 import os
@@ -27,6 +27,7 @@ PACKAGES = [
     ("pv", ["pv"], ["pv -l"]),
     ("Coq", ["coqc"], ["coqc"]),
     ("polymake", ["polymake"], ["polymake '"]),
+    ("rsvg-convert", ["rsvg-convert"], ["rsvg-convert"]),
 ]
 
 
