@@ -11,9 +11,11 @@ import gzip
 import os
 import random
 import shutil
+import signal
 import subprocess
 import sys
 import tempfile
+import time
 
 HERE = os.path.dirname(os.path.abspath(__file__))
 TALLY = {True: 0, False: 0}
@@ -248,9 +250,50 @@ def stopped_and_taken_over():
             compare("%s of a run that is taken over" % name, bytes_of(first, name), bytes_of(second, name))
         compare("the tally of a run with a tally", bytes_of(first, "all-5.tally"), bytes_of(third, "all-5.tally"))
         compare("claims of a run with a tally", False, os.path.exists(os.path.join(third, "all-5.claims")))
+        other_options(first)
+        stopped_by_hand(os.path.join(folder, "fourth"))
     for words in (["classify"], ["classify", "x", "some", "5"], ["classify", "x", "all", "2"]):
         done = run(words)
         compare(" ".join(words), (2, b"", True), (done.returncode, done.stdout, done.stderr.startswith(b"classify: ")))
+
+
+def other_options(folder):
+    """A run with another seed or schedule over blocks that are done stops, says both and changes nothing; and so it
+    does where the run before it was stopped in its blocks."""
+    def files():
+        return sorted((path, bytes_of("", path)) for path in glob.glob(folder + "/**", recursive=True)
+                      if os.path.isfile(path))
+
+    before = files()
+    for words in (["--seed=2"], ["--schedule=20:1000:1,decide"], ["--box=7"]):
+        done = run(["classify", folder, "all", "5", *words])
+        said = done.stderr.decode()
+        compare("classify with %s over other blocks" % words, (1, b"", True, True),
+                (done.returncode, done.stdout, "--seed=1\n" in said, words[0] in said and "another folder" in said))
+    os.remove(os.path.join(folder, "all-5.tally"))
+    os.remove(os.path.join(folder, "all-5.table"))
+    os.remove(os.path.join(folder, "all-5.blocks", "000000.tally"))
+    done = run(["classify", folder, "all", "5", "--seed=2"])
+    compare("classify with another seed where one was stopped", (1, b""), (done.returncode, done.stdout))
+    compare("and with the same one", 0, run(["classify", folder, "all", "5"]).returncode)
+    compare("nothing has changed", [path for path, _ in before if not path.endswith(".times")],
+            [path for path, data in files() if not path.endswith(".times") and (path, data) in before])
+
+
+def stopped_by_hand(folder):
+    """Control-C, which goes to all programs of the terminal, ends it with 130 in each of its stages, and the same
+    command goes on."""
+    words = [os.path.join(HERE, "classify"), folder, "uniform", "8"]
+    for stage in ("uniform-7.grown/*", "uniform-8.blocks/heading"):
+        process = subprocess.Popen(words, stdout=subprocess.PIPE, stderr=subprocess.PIPE, start_new_session=True)
+        end = time.monotonic() + 120
+        while not glob.glob(os.path.join(folder, stage)) and process.poll() is None and time.monotonic() < end:
+            time.sleep(0.01)
+        os.killpg(process.pid, signal.SIGINT)
+        process.communicate()
+        compare("classify, stopped at %s" % stage, 130, process.returncode)
+    done = run(["classify", folder, "uniform", "8"])
+    compare("classify behind control-C", (0, True), (done.returncode, b"135 classes, 135 realizable" in done.stdout))
 
 
 def answer_of(done):
