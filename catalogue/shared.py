@@ -91,6 +91,11 @@ def text_of(n, signs):
     return "om 1\nchirotope 3 %d\n%s\nend\n" % (n, signs)
 
 
+def vector_lines(vectors):
+    """The lines behind the word `realizable` of a claim, with their end."""
+    return "".join(["vector %d %d %d\n" % tuple(vector) for vector in vectors]) + "end\n"
+
+
 def lines_with_words(source):
     """The words of each line that has some, up to its comment. Between them stand blanks, tabs and carriage returns."""
     for number, line in enumerate(source, 1):
