@@ -8,6 +8,8 @@ what it leaves out. The last line is 'catalogue: N passed, M failed', and the ex
 """
 import glob
 import gzip
+import hashlib
+import itertools
 import os
 import random
 import shutil
@@ -24,6 +26,7 @@ THREE = b"om 1\nchirotope 3 3\n+\nend\n"
 FOUR = b"om 1\nchirotope 3 4\n++++\nend\n"
 VECTORS = b"realizable\nvector 1 0 0\nvector 0 1 0\nvector 0 0 1\nvector 1 -1 1\nend\n"
 BROKEN = b"om 1\nchirotope 3 5\n+-++++++++\nend\n"
+CLIMBED = "a27f1775ec4f438c"  # the SHA-256 of the claims of climb for 80 documents begins so
 CUT = FOUR + b"om 1\nchirotope 3 4\n++++\n"
 
 # words, input, what its message says, whether nauty is needed
@@ -56,6 +59,15 @@ BAD = [
     (["grow"], THREE + FOUR, "document 2: it has 4 elements", True),
     (["grow"], b"om 1\nchirotope 3 4\n+000\nend\n", "document 1: it has a loop or parallel", True),
     (["grow"], BROKEN, "document 1: om_each answers `refused relation", True),
+    (["climb", "--starts=0"], FOUR, "the word `--starts=0`", False),
+    (["climb", "--box=20"], FOUR, "the word `--box=20`", False),
+    (["climb", "--seed=-1"], FOUR, "the word `--seed=-1`", False),
+    (["climb"], CUT, "document 2: it breaks off", False),
+    (["climb"], FOUR + VECTORS, "document 1: a claim", False),
+    (["climb"], THREE + b"om 1\nchirotope 3 4\n+++\nend\n", "document 2: its values", False),
+    (["climb"], b"om 1\nchirotope 2 4\n++++++\nend\n", "document 1: `chirotope 2 4`", False),
+    (["realize", "--schedule=climb:100,decide"], FOUR, "a schedule has", False),
+    (["realize", "--schedule=climb:0:1,decide"], FOUR, "a schedule has", False),
     (["realize", "--schedule=6:10:1"], FOUR, "the word decide", False),
     (["realize", "--schedule=decide,6:10"], FOUR, "a schedule has", False),
     (["realize", "--seed=x"], FOUR, "the word `--seed=x`", False),
@@ -120,6 +132,51 @@ def bad_inputs(has_nauty):
         done = run(words, FOUR, {variable: "/nowhere/program"})
         compare("%s without %s" % (words[0], variable), (True, True),
                 (done.returncode == 1 and not done.stdout, b"isn't there" in done.stderr))
+
+
+def climbs():
+    """climb finds vectors for what is realizable: also on three elements, with loops and parallel elements, and where
+    all elements but one are on a line. What isn't realizable, or no chirotope, comes back as it is, after the starts
+    that the words allow. All versions of Python write the same bytes."""
+    three = [b"om 1\nchirotope 3 3\n%s\nend\n" % sign for sign in (b"+", b"-")]
+    vectors = [(0, 0, 0), (1, 0, 0), (-2, 0, 0), (0, 1, 0), (0, 3, 0), (1, 1, 5), (-1, -1, -5), (0, 0, 0), (1, 2, 3)]
+    pencils = [document_of([(0, 0, 1)] + [(x, 1, 0) for x in range(n)]) for n in range(2, 20)]
+    turned = [document_of([(2, -x, 0) for x in (3, 1, -4, 9, 0)] + [(1, 1, 1)] + [(2, 5, 0), (-2, 7, 0)])]
+    found = three + [document_of(vectors)] + pencils + turned
+    done = run(["climb"], b"".join(found))
+    compare("climb, claims", (0, len(found)), (done.returncode, done.stdout.count(b"\nrealizable # start 1\n")))
+    compare("tally of what climb writes", 0, run(["tally"], done.stdout).returncode)
+    left = bytes_of(os.path.dirname(HERE), "examples/non-pappus.om")
+    left = [left[left.index(b"om 1"):], b"om 1\nchirotope 3 4\n0000\nend\n", BROKEN]
+    for words in [], ["--starts=2", "--steps=3", "--seed=7"]:
+        done = run(["climb", *words], b"".join(left))
+        compare("climb, documents that are left", (0, b"".join(left)), answer_of(done))
+    with gzip.open(os.path.join(HERE, "realizable-8.claims.gz"), "rb") as file:
+        documents = document_parts(file.read())[:80]
+    claims = run(["climb"], b"".join(documents)).stdout
+    compare("climb, the classes on up to 6 and some on 7", len(documents), claims.count(b"\nrealizable # start "))
+    compare("climb, bytes", CLIMBED, hashlib.sha256(claims).hexdigest()[:16])
+    climbed = run(["realize", "--schedule=climb:100:5,decide"], b"".join(documents)).stdout
+    compare("realize by climbing, vectors", vectors_alone(claims), vectors_alone(climbed))
+
+
+def document_of(vectors):
+    """The document of these vectors."""
+    signs = ""
+    for (a, b, c), (d, e, f), (g, h, i) in itertools.combinations(vectors, 3):
+        determinant = a * (e * i - f * h) - b * (d * i - f * g) + c * (d * h - e * g)
+        signs += "0+-"[(determinant > 0) - (determinant < 0)]
+    lines = "\n".join(signs[k : k + 64] for k in range(0, len(signs), 64))
+    return b"om 1\nchirotope 3 %d\n%s\nend\n" % (len(vectors), lines.encode())
+
+
+def document_parts(claims):
+    """The document of each claim."""
+    return [b"om 1\n" + claim[: claim.index(b"end\n") + 4] for claim in claims.split(b"om 1\n")[1:]]
+
+
+def vectors_alone(claims):
+    return [line for line in claims.split(b"\n") if line.startswith((b"chirotope", b"vector"))]
 
 
 def renamed_certificate():
@@ -308,6 +365,7 @@ def bytes_of(folder, name):
 def main():
     has_nauty = bool(shutil.which("labelg") or shutil.which("nauty-labelg"))
     bad_inputs(has_nauty)
+    climbs()
     renamed_certificate()
     classes_and_claims(has_nauty)
     shipped_claims()

@@ -59,7 +59,8 @@ FILTERS = [
 ]
 CATALOGUE = [
     ("relabel 2 -1 4 3", UNIFORM), ("relabel 2 -1 4 3", VECTORS), ("relabel 9 8 7 6 5 4 3 2 1", ENTRIES),
-    ("to-graph6", UNIFORM), ("classes", UNIFORM), ("grow", UNIFORM), ("realize", UNIFORM), ("tally", VECTORS),
+    ("to-graph6", UNIFORM), ("classes", UNIFORM), ("grow", UNIFORM), ("realize", UNIFORM), ("climb", UNIFORM),
+    ("tally", VECTORS),
 ]
 REFEREE = [("referee.py", VECTORS), ("referee.py", ENTRIES)]
 NEEDS = {"classes": ["nauty"], "grow": ["nauty", "om_each"], "realize": ["om_each"], "tally": ["om_each"]}
