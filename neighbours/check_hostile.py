@@ -43,6 +43,9 @@ BRACKETS = b"[134][179] < [137][149]\n"
 with open(os.path.join(TOP, "examples", "non-pappus-claim.om"), "rb") as claim:
     ENTRIES = b"".join(line for line in claim if not line.startswith(b"#"))
 
+with open(os.path.join(TOP, "catalogue", "irrational-9.surd"), "rb") as surd:
+    SURD = b"".join(line for line in surd if not line.startswith(b"#"))
+
 # each filter with its words and a good input
 FILTERS = [
     ("om-to-topcom", UNIFORM), ("om-points-to-topcom", POINTS), ("om-to-lists", UNIFORM),
@@ -54,7 +57,8 @@ FILTERS = [
     ("topcom-sets-to-om cocircuits 3", b"3,2:\n{\n[{1},{2}]\n}\n"),
     ("extensions-to-om examples/uniform-3-4.om -", b"om 1\nextensions 4\n++++++\nend\n"),
     ("restore-names examples/uniform-3-4-named.om", b"mutations 1\n1,2,3\nend\n"),
-    ("claim-to-coq", VECTORS), ("claim-to-coq", ENTRIES), ("claim-to-points", PLANE), ("claim-to-brackets", ENTRIES),
+    ("claim-to-coq", VECTORS), ("claim-to-coq", ENTRIES), ("surd-to-coq", SURD),
+    ("claim-to-points", PLANE), ("claim-to-brackets", ENTRIES),
     ("brackets-to-claim examples/non-pappus.om", BRACKETS),
 ]
 CATALOGUE = [
