@@ -27,6 +27,7 @@ FOUR = b"om 1\nchirotope 3 4\n++++\nend\n"
 VECTORS = b"realizable\nvector 1 0 0\nvector 0 1 0\nvector 0 0 1\nvector 1 -1 1\nend\n"
 BROKEN = b"om 1\nchirotope 3 5\n+-++++++++\nend\n"
 CLIMBED = "a27f1775ec4f438c"  # the SHA-256 of the claims of climb for 80 documents begins so
+RUN = b"# all 9: 1 classes, SHA-256 1, by realize\n000000 1 1 0 0 0 0 1 1 0123456789abcdef\n"
 CUT = FOUR + b"om 1\nchirotope 3 4\n++++\n"
 
 # words, input, what its message says, whether nauty is needed
@@ -79,6 +80,9 @@ BAD = [
     (["tally", "--sum"], b"000000 1 1 0 0 0 0 1 1 0123456789abcdef\n", "the first line", False),
     (["tally", "--sum"], b"# all 9\n000000 2 1 0 0 0 0 1 1 0123456789abcdef\n", "line 2", False),
     (["tally", "--sum"], b"# all 9\n" + 2 * b"000000 1 1 0 0 0 0 1 1 0123456789abcdef\n", "line 3", False),
+    (["tally", "--sum"], RUN + RUN.replace(b"SHA-256 1", b"SHA-256 2"), "line 3: a run over other classes", False),
+    (["tally", "--sum"], RUN + RUN.replace(b" 1 1 0 0", b" 2 1 0 1"), "line 4: the block had 1 claims", False),
+    (["tally", "--sum"], RUN + RUN + RUN.partition(b"\n")[2], "line 5: it isn't that of another", False),
     (["tally"], FOUR, "document 1: a document without a verdict", False),
     (["tally"], FOUR + VECTORS.replace(b"-1", b"1"), "claim 1: refused wrongsign 1,3,4", False),
     (["tally"], FOUR + b"nonrealizable\nend\n", "claim 1: refused nostrict", False),
@@ -266,8 +270,8 @@ def shipped_claims():
 
 
 def shipped_tallies():
-    """No tally that is shipped has more of a kind than is published, and none has a refused claim. Where certificates
-    or weights are shipped beside it, they are as many as it says."""
+    """No tally that is shipped has more of a kind than is published, and none has a refused claim. Certificates are
+    shipped beside it as many as it says. What it leaves undecided is shipped with vectors or with weights."""
     for path in sorted(glob.glob(os.path.join(HERE, "*.tally"))):
         kind, n = os.path.basename(path).split(".")[0].split("-")
         with open(path, "rb") as file:
@@ -277,10 +281,28 @@ def shipped_tallies():
         classes, known = int(words[10]), int(words[12])
         few = made <= classes and realizable <= known and nonrealizable <= classes - known
         compare("the tally %s" % path, ([n, kind], True, 0), (words[:2], few, refused))
-        for verdict, count in ("nonrealizable", nonrealizable), ("undecided", undecided):
-            name = "%s-%s%s.claims" % (verdict, n, "" if kind == "all" else "-" + kind)
-            if os.path.exists(os.path.join(HERE, name)):
-                compare("as many claims in %s as the tally says" % name, count, bytes_of(HERE, name).count(b"om 1\n"))
+        ending = "-%s%s.claims" % (n, "" if kind == "all" else "-" + kind)
+        if os.path.exists(os.path.join(HERE, "nonrealizable" + ending)):
+            compare("as many certificates as %s says" % path, nonrealizable, shipped("nonrealizable" + ending))
+        least, vectors = shipped("undecided" + ending), shipped("realizable" + ending + ".gz")
+        compare("what %s leaves undecided is shipped" % path, True, least <= undecided <= least + vectors)
+
+
+def shipped(name):
+    """How many claims a file of this folder has; none if it isn't there."""
+    path = os.path.join(HERE, name)
+    if not os.path.exists(path):
+        return 0
+    with (gzip.open if path.endswith(".gz") else open)(path, "rb") as file:
+        return file.read().count(b"om 1\n")
+
+
+def later_runs():
+    """Where a tally has two runs, the lines of the second one count."""
+    later = RUN.replace(b"by realize", b"by realize --seed=2").replace(b" 1 1 0 0 0 0 1 1 ", b" 1 0 0 1 0 0 0 0 ")
+    done = run(["tally", "--sum"], RUN + RUN.replace(b"000000", b"000001").partition(b"\n")[2] + later)
+    compare("a tally of two runs", (0, b"9 all 2 1 0 1 0 0 1 1".split()),
+            (done.returncode, done.stdout.split(b"\n")[1].split()[:10]))
 
 
 def stopped_and_taken_over():
@@ -370,6 +392,7 @@ def main():
     classes_and_claims(has_nauty)
     shipped_claims()
     shipped_tallies()
+    later_runs()
     if has_nauty:
         stopped_and_taken_over()
     print("catalogue: %d passed, %d failed" % (TALLY[True], TALLY[False]))
