@@ -11,7 +11,7 @@ from arithmetic import cross, distance, dot, length, sphere, unit
 from filters import Refused
 from infinity import swept
 from svg import Arc, Curve
-from views import spread_evenly
+from views import spread
 
 # crossings closer than this part of the radius can't be told apart
 READABLE = 0.06
@@ -21,9 +21,13 @@ STRAIGHT = 200
 
 def arranged(vectors, chirotope):
     """The arrangement of the lines of these vectors, seen from the best pole, with what `curves_of` needs; None where
-    crossings or names would lie too close to one another in each view. `vectors` has one for each element."""
+    crossings or names would lie too close to one another in each view, or floating numbers are too short. `vectors`
+    has one for each element."""
     elements = chirotope.elements
-    base = dict(zip(elements, spread_evenly([vectors[e] for e in elements])))
+    spread_out = spread([vectors[e] for e in elements], chirotope)
+    if spread_out is None:
+        return None
+    base = dict(zip(elements, spread_out))
     meets = [unit(cross(base[crossing[0]], base[crossing[1]])) for crossing in chirotope.crossings()]
     best, pole = 0.0, None
     for direction in sphere(600 if len(elements) < 12 else 200):

@@ -30,6 +30,7 @@ TOP = os.path.dirname(HERE)
 sys.path[:0] = [HERE]
 sys.path.append(os.path.join(TOP, "neighbours"))
 
+import check_hostile as others  # noqa: E402
 import readback  # noqa: E402
 from filters import Refused, WrongWords  # noqa: E402
 from readback import Fault, wanted  # noqa: E402
@@ -248,7 +249,7 @@ def checked(job):
 
 def groups_of(whole):
     """Groups of documents, each with its words and a name: the sample of the gate, or all."""
-    rng, step = random.Random(1), 1 if whole else 12
+    rng, step = random.Random(1), 1 if whole else 24
     small, seven = classes(3, 4, 5, 6), classes(7)[::step]
     nine = documents_in(text_of("catalogue", "nonrealizable-9.claims"))
     ten = documents_in(text_of("catalogue", "nonrealizable-10-uniform.claims"))
@@ -257,8 +258,8 @@ def groups_of(whole):
         "uniform-3-4.om", "uniform-3-4-named.om", "pappus.om", "non-pappus.om", "pappus-points.om", "loop-vectors.om",
         "ringel-wiring-claim.om", "non-pappus-claim.om", "uniform-3-5-weights.om", "pappus-vectors.om")]
     wirings = [random_wiring(3 + k % 10, rng) for k in range(200 if whole else 10)]
-    planes = [random_points(4 + k % 9, rng) for k in range(120 if whole else 18)]
-    crowds = [random_points(20, rng, True) for _ in range(4 if whole else 1)]
+    planes = [random_points(4 + k % 9, rng) for k in range(120 if whole else 10)]
+    crowds = [random_points(20 if whole else 14, rng, True) for _ in range(4 if whole else 1)]
     if whole:
         planes += [made(k, 4 + k % 9) for k in range(120)]
     planes, crowds = ([text for text in texts if each("accept", text) == "accepted\n"] for texts in (planes, crowds))
@@ -274,16 +275,16 @@ def groups_of(whole):
         ("classes on 7, wiring", "wiring --triangles", seven),
         ("classes on 7, points", "points", seven),
         ("random wirings, wiring", "wiring --triangles", wirings),
-        ("random wirings, disk", "disk --triangles", wirings[::1 if whole else 2]),
+        ("random wirings, disk", "disk --triangles", wirings[::1 if whole else 3]),
         ("nonrealizable classes on nine, disk", "disk --triangles", nine[::1 if whole else 60]),
         ("nonrealizable classes on nine, wiring", "wiring --triangles", nine[::1 if whole else 90]),
-        ("nonrealizable uniform classes on ten, disk", "disk", ten[::1 if whole else 100]),
+        ("nonrealizable uniform classes on ten, disk", "disk", ten[::1 if whole else 130]),
         ("undecided classes on nine, disk", "disk --triangles", undecided[::1 if whole else 10]),
         ("random points, points", "points", planes),
         ("random points, disk", "disk --triangles", planes[::1 if whole else 2]),
         ("random points, wiring", "wiring --triangles", planes[::1 if whole else 2]),
-        ("twenty points with long names", "points", crowds),
-        ("twenty lines with long names", "disk", crowds),
+        ("many points with long names", "points", crowds),
+        ("many lines with long names", "disk", crowds),
     ]
 
 
@@ -432,6 +433,28 @@ def refusals():
                 except Exception as other:  # anything else is a traceback for a user
                     fault = repr(other)
                 expect("to-svg on %r" % broken, not fault, fault)
+
+
+def hostile_inputs():
+    """The inputs and streams of neighbours/check_hostile.py, which nobody means, lead to a picture of the whole good
+    input or to a refusal."""
+    others.path_of = lambda line: "pictures/" + line
+    before = dict(others.TALLY)
+    for line, good in (("to-svg", VECTORS), ("to-svg --sheet", UNIFORM), ("sweepable", UNIFORM), ("gallery", VECTORS)):
+        name, *words = line.split()
+        module = load(name)
+        results = {1: others.ended_here(module, words, good)[1], 2: others.ended_here(module, words, 2 * good)[1]}
+        expect("%s: a good input" % line, results[1])
+        for what, count, data in others.hostile(good):
+            try:
+                others.judge("%s: %s" % (line, what), others.ended_here(module, words, data), count, results)
+            except Exception as error:  # any error is a fault of the filter
+                expect("%s: %s" % (line, what), False, repr(error))
+        if line != "to-svg --sheet":
+            for what, found, aim in others.look_at_streams(line, good):
+                others.expect(what, found, aim)
+    for good in TALLY:
+        TALLY[good] += others.TALLY[good] - before[good]
 
 
 def sweepables(whole):
@@ -676,6 +699,7 @@ def main():
     maps(3000 if whole else 150)
     wrong_pictures()
     refusals()
+    hostile_inputs()
     sweepables(whole)
     sheets()
     galleries()

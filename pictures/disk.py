@@ -5,7 +5,6 @@ An element runs to the arrow at its name, and its positive side is on the left. 
 import arcs
 from curves import smooth
 from embedding import places
-from infinity import arrangement_of
 from labels import around_circle
 from skeleton import Skeleton
 from svg import LIGHT, Arc, Box, Picture, colour, dot, filled, line, num, pair
@@ -51,10 +50,6 @@ def of_arrangement(arrangement):
     skeleton = Skeleton(arrangement)
     place = [(RADIUS * x, -RADIUS * y) for x, y in places(skeleton)]
     return Disk(arrangement, skeleton, place, smooth(skeleton, place, RADIUS))
-
-
-def of_chirotope(chirotope):
-    return of_arrangement(arrangement_of(chirotope))
 
 
 def drawn(disk, names, size, stroke, triples=()):

@@ -9,7 +9,10 @@ from math import inf, sqrt
 from arithmetic import direction
 from minimize import descended
 
+# how much straight wires, corners that aren't flat and long edges count
 BEND, CORNER, LENGTH = 8.0, 0.08, 0.12
+# how far a crossing goes beyond the middle of its neighbours, so that fewer rounds are needed
+OVER = 1.6
 
 
 def places(skeleton):
@@ -18,7 +21,7 @@ def places(skeleton):
     energy = Energy(skeleton)
     if energy.of_places(start)[0] == inf:
         return start  # where cells are too flat for floating numbers
-    rounds = 140 if skeleton.wires < 13 else 60
+    rounds = 140 if skeleton.wires < 13 else 45
     return energy.all_places(descended(energy.of_variables, energy.variables(start), rounds))
 
 
@@ -43,13 +46,27 @@ def middles(skeleton):
             for w in near[v]:
                 x += place[w][0]
                 y += place[w][1]
-            (u, v_), count = place[v], len(near[v])
-            dx, dy = 1.6 * (x / count - u), 1.6 * (y / count - v_)
-            place[v] = u + dx, v_ + dy
+            here, count = place[v], len(near[v])
+            dx, dy = OVER * (x / count - here[0]), OVER * (y / count - here[1])
+            place[v] = here[0] + dx, here[1] + dy
             most = max(most, abs(dx), abs(dy))
         if most < 1e-5:
             break
     return place
+
+
+class Slope:
+    """The derivatives of an energy by the coordinates x and y of each vertex."""
+
+    def __init__(self, count):
+        self.x, self.y = [0.0] * count, [0.0] * count
+
+    def add_edge(self, p, q, x, y):
+        """Adds a derivative x, y by the edge from p to q."""
+        self.x[p] -= x
+        self.y[p] -= y
+        self.x[q] += x
+        self.y[q] += y
 
 
 class Energy:
@@ -65,7 +82,7 @@ class Energy:
         ring = skeleton.ring()
         self.edges = [pair for walk in skeleton.walks for pair in zip(walk, walk[1:])]
         self.edges += zip(ring, ring[1:] + ring[:1])
-        self.mean = 2.6 / (skeleton.wires + 1)
+        self.mean = 2.6 / (skeleton.wires + 1)  # about how long an edge is
 
     def variables(self, place):
         chosen = place[:self.skeleton.crossings] + place[self.skeleton.right(0):]
@@ -82,70 +99,74 @@ class Energy:
 
     def of_variables(self, variables):
         """The energy and its gradient by the variables."""
-        count, wires = self.skeleton.crossings, self.skeleton.wires
         place = self.all_places(variables)
-        value, along_x, along_y = self.of_places(place)
+        value, slope = self.of_places(place)
         if value == inf:
             return inf, variables
-        gradient = [x for pair in zip(along_x[:count], along_y[:count]) for x in pair]
-        for wire in range(wires):
-            left, right = count + wire, count + wires + wire
-            gx, gy = along_x[right] - along_x[left], along_y[right] - along_y[left]
-            (x, y), vx, vy = place[right], variables[2 * (count + wire)], variables[2 * (count + wire) + 1]
-            inwards, size = gx * x + gy * y, sqrt(vx * vx + vy * vy)
-            gradient += [(gx - inwards * x) / size, (gy - inwards * y) / size]
+        crossings = self.skeleton.crossings
+        gradient = [x for pair in zip(slope.x[:crossings], slope.y[:crossings]) for x in pair]
+        for wire in range(self.skeleton.wires):
+            # the ends are opposite, and stay on the circle
+            left, right = self.skeleton.left(wire), self.skeleton.right(wire)
+            gx, gy = slope.x[right] - slope.x[left], slope.y[right] - slope.y[left]
+            x, y = place[right]
+            vx, vy = variables[2 * (crossings + wire)], variables[2 * (crossings + wire) + 1]
+            outwards, size = gx * x + gy * y, sqrt(vx * vx + vy * vy)
+            gradient += [(gx - outwards * x) / size, (gy - outwards * y) / size]
         return value, gradient
 
     def of_places(self, place):
-        """The energy, and its derivatives by the coordinates x and y of each vertex."""
-        value, along_x, along_y = 0.0, [0.0] * len(place), [0.0] * len(place)
+        """The energy and its slope; inf where a cell isn't convex."""
+        slope, value = Slope(len(place)), 0.0
+        for part in self.of_corners, self.of_bends, self.of_edges:
+            value += part(place, slope)
+            if value == inf:
+                break
+        return value, slope
+
+    def of_corners(self, place, slope):
+        """For each corner of a cell one divided by the sine of the angle between its sides, which grows without end
+        where the corner becomes flat."""
+        value = 0.0
         for p, q, r in self.corners:
-            # one divided by the sine of the angle between the sides, which is infinite where they are in one line
-            ax, ay = place[q][0] - place[p][0], place[q][1] - place[p][1]
-            bx, by = place[r][0] - place[q][0], place[r][1] - place[q][1]
+            (px, py), (qx, qy), (rx, ry) = place[p], place[q], place[r]
+            ax, ay, bx, by = qx - px, qy - py, rx - qx, ry - qy
             turn, aa, bb = ax * by - ay * bx, ax * ax + ay * ay, bx * bx + by * by
             size = sqrt(aa * bb)
             if turn <= 1e-9 * size:
-                return inf, along_x, along_y
+                return inf
             term = CORNER * size / turn
             value += term
             da, db, dt = term / aa, term / bb, term / turn
-            gax, gay = da * ax - dt * by, da * ay + dt * bx
-            gbx, gby = db * bx + dt * ay, db * by - dt * ax
-            along_x[p] -= gax
-            along_y[p] -= gay
-            along_x[q] += gax - gbx
-            along_y[q] += gay - gby
-            along_x[r] += gbx
-            along_y[r] += gby
+            slope.add_edge(p, q, da * ax - dt * by, da * ay + dt * bx)
+            slope.add_edge(q, r, db * bx + dt * ay, db * by - dt * ax)
+        return value
+
+    def of_bends(self, place, slope):
+        """For each crossing of a wire the square of the tangent of half the angle by which it turns there."""
+        value = 0.0
         for p, q, r in self.bends:
-            # the square of the tangent of half the angle by which a wire turns
-            ax, ay = place[q][0] - place[p][0], place[q][1] - place[p][1]
-            bx, by = place[r][0] - place[q][0], place[r][1] - place[q][1]
+            (px, py), (qx, qy), (rx, ry) = place[p], place[q], place[r]
+            ax, ay, bx, by = qx - px, qy - py, rx - qx, ry - qy
             ahead, aa, bb = ax * bx + ay * by, ax * ax + ay * ay, bx * bx + by * by
             size = sqrt(aa * bb)
             both = size + ahead
             if both <= 1e-9 * size:
-                return inf, along_x, along_y
+                return inf
             value += BEND * (size - ahead) / both
             factor = 2 * BEND / (both * both)
             da, db, dd = factor * ahead * size / aa, factor * ahead * size / bb, factor * size
-            gax, gay = da * ax - dd * bx, da * ay - dd * by
-            gbx, gby = db * bx - dd * ax, db * by - dd * ay
-            along_x[p] -= gax
-            along_y[p] -= gay
-            along_x[q] += gax - gbx
-            along_y[q] += gay - gby
-            along_x[r] += gbx
-            along_y[r] += gby
+            slope.add_edge(p, q, da * ax - dd * bx, da * ay - dd * by)
+            slope.add_edge(q, r, db * bx - dd * ax, db * by - dd * ay)
+        return value
+
+    def of_edges(self, place, slope):
+        """For each edge, also those between neighbours on the circle, one divided by its length."""
+        value = 0.0
         for p, q in self.edges:
             dx, dy = place[q][0] - place[p][0], place[q][1] - place[p][1]
             square = dx * dx + dy * dy
             term = LENGTH * self.mean / sqrt(square)
             value += term
-            gx, gy = term / square * dx, term / square * dy
-            along_x[p] += gx
-            along_y[p] += gy
-            along_x[q] -= gx
-            along_y[q] -= gy
-        return value, along_x, along_y
+            slope.add_edge(p, q, -term / square * dx, -term / square * dy)
+        return value

@@ -1,5 +1,6 @@
 """labels.py: places for names, so that no two lie on one another. Python's standard library alone."""
 from dataclasses import dataclass
+from itertools import count
 
 from arithmetic import direction, distance
 from svg import LIGHT, Box, box_of_words, colour, num, pair, text, width_of
@@ -37,7 +38,7 @@ class Label:
 
 def around_circle(ends, radius, size, gap):
     """Labels around a circle: each as close to its end of a line as the others allow, from the circle outwards. `ends`
-    are pairs of a point of the circle with words and their element."""
+    has for each a point of the circle, its words and their element."""
     placed = []
     for point, words, element in sorted(ends, key=lambda end: width_of(end[1], size)):
         u = point[0] / radius, point[1] / radius
@@ -87,7 +88,7 @@ def best_label(spot, spots, labels, lines, size):
     """The best label for a mark: on one of its close rings of places, or on the first ring that has a free one."""
     taken, places = [other.box for other in spots] + [label.box() for label in labels], [other.place for other in spots]
     free = []
-    for ring in range(400):
+    for ring in count():
         for turn in range(TURNS):
             label = Label(spot.words, spot.element, around_mark(spot, ring, turn, size), size)
             box = label.box()
@@ -99,7 +100,6 @@ def best_label(spot, spots, labels, lines, size):
                 free.append((cost, ring, turn, label))
         if free and ring >= CLOSE:
             return min(free)[3]
-    raise AssertionError("the page has no end")
 
 
 def around_mark(spot, ring, turn, size):

@@ -38,8 +38,8 @@ class Points:
 
 
 def drawn(vectors, chirotope, names, free, size):
-    """The picture of vectors, which are those of the elements, and how its view was made. With `free` any linear map
-    may be taken."""
+    """The picture of the vectors of the elements; its words say how the view was made. With `free` any linear map may
+    be taken."""
     points = Points(vectors, chirotope, free, size)
     places = points.view.places
     box = Box(0, 0, 0, 0)

@@ -102,12 +102,14 @@ def joined(numbers):
 
 
 def path(curves, close=False):
-    """The path of curves of which each begins where the one before ends."""
+    """The path of curves of which each begins where the one before ends. The steps to points that aren't ends are
+    rounded to tenths, which nobody sees."""
     here = hundredths_of(curves[0].points[0])
     text, last = "M" + joined(here), "M"
     for curve in curves:
         letter, front, points = curve.command()
         steps = [x - y for point in points for x, y in zip(hundredths_of(point), here)]
+        steps[:-2] = [(x + 5) // 10 * 10 for x in steps[:-2]]
         if letter == "l" and steps[1] == 0:
             letter, steps = "h", steps[:1]
         words = front + joined(steps)

@@ -6,13 +6,16 @@ the same signs in another view. Python's standard library alone.
 from itertools import combinations
 from math import sqrt
 
-from arithmetic import area, distance, dot, sphere, total, unit
+from arithmetic import area, cross, distance, dot, sphere, total, unit
+from claims import det
 
 WIDE, TALL = 600, 440
 # a view is good where points are apart by so many sizes of the letters, and triangles so many units high
 NEAR, FLAT = 1.4, 2.5
 # how many directions are looked at, and of how many of these the whole view
 DIRECTIONS, LOOKS = 800, 60
+# what the volume of three vectors of length 1 is above where it isn't 0
+LEAST = 1e-9
 
 
 class View:
@@ -82,9 +85,18 @@ def sheared(points):
     return -xy / xx * stretch, stretch
 
 
-def spread_evenly(vectors):
-    """The vectors after a linear map of positive determinant, each of length 1, spread over all directions: the sum of
-    their squares comes close to a multiple of the identity."""
+def spread(vectors, chirotope):
+    """The vectors, of whole numbers, after a linear map of positive determinant that spreads them over all directions,
+    each of length 1; None where floating numbers are too short to keep their signs."""
+    for start in vectors, in_basis(vectors):
+        spread_out = evenly(start)
+        if are_reliable(spread_out, chirotope):
+            return spread_out
+    return None
+
+
+def evenly(vectors):
+    """The vectors mapped so that the sum of their squares comes close to a multiple of the identity."""
     vectors = [unit(v) for v in vectors]
     for _ in range(25):
         m = [[total(v[i] * v[j] for v in vectors) for j in range(3)] for i in range(3)]
@@ -101,6 +113,23 @@ def spread_evenly(vectors):
             mapped.append(unit((x, y, (z - c * x - e * y) / f)))
         vectors = mapped
     return vectors
+
+
+def in_basis(vectors):
+    """The vectors, of whole numbers, in the coordinates of the three with the greatest volume, up to a factor. Their
+    numbers stay exact, and none is greater than that of the basis, so what is nearly flat becomes wide."""
+    a, b, c = max(combinations(vectors, 3), key=lambda basis: abs(det(*basis)))
+    return [(det(v, b, c), det(a, v, c), det(a, b, v)) for v in vectors]
+
+
+def are_reliable(vectors, chirotope):
+    """Whether floating numbers keep the signs of vectors, which are numbered by the elements in their order."""
+    numbers = {e: v for e, v in zip(chirotope.elements, vectors)}
+    for (a, b, c), sign in chirotope.signs.items():
+        volume = dot(cross(numbers[a], numbers[b]), numbers[c])
+        if sign * volume <= LEAST if sign else abs(volume) > LEAST:
+            return False
+    return True
 
 
 def best_view(vectors, chirotope, free, size):
@@ -127,7 +156,9 @@ def best_view(vectors, chirotope, free, size):
 def best_projection(vectors, chirotope, free, size):
     """The best view from another side, with its quality: of those with the fewest vectors behind infinity, or of those
     that leave each vector on its side. None where there is none."""
-    base = spread_evenly(vectors)
+    base = spread(vectors, chirotope)
+    if base is None:
+        return None
     sides = [z > 0 for _, _, z in vectors]
     tries = []
     for f in sphere(DIRECTIONS):
