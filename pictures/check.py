@@ -123,9 +123,9 @@ def each(words, text):
 
 
 class Case:
-    """A document or claim, its names, and its signs by om."""
+    """A document or claim, its names, and its signs and mutations by om."""
 
-    def __init__(self, text, answer):
+    def __init__(self, text, answer, mutations):
         self.text = text
         lines = answer.split("\n")
         count = int(lines[1].split()[2])
@@ -133,6 +133,7 @@ class Case:
         self.signs = {t: "-0+".index(s) - 1 for t, s in zip(combinations(range(1, count + 1), 3), signs)}
         named = re.search("(?m)^names (.*)$", text)
         self.elements = named[1].split() if named else [str(e) for e in range(1, count + 1)]
+        self.mutations = {" ".join(self.elements[int(e) - 1] for e in line.split(",")) for line in mutations}
 
     def look(self, group):
         """Refuses a drawing in which this isn't seen."""
@@ -152,6 +153,10 @@ class Case:
         page = readback.Page(svg)
         readback.check_words(page)
         self.look(page.groups[0])
+        if "--triangles" in words.split():
+            filled = re.search(r"Filled: (.*?)\.", page.root[1].text)
+            wanted(set(filled[1].split("; ") if filled else []) == self.mutations, "other mutations than %s",
+                   sorted(self.mutations))
         wanted(len(self.elements) > 10 or len(svg.encode()) <= MOST_BYTES, "%d bytes", len(svg.encode()))
         return svg
 
@@ -168,10 +173,12 @@ def without_verdict(text):
 def cases(texts):
     """Documents and claims with their signs by om."""
     texts = list(texts)
-    answers = each("convert chirotope", "".join(map(without_verdict, texts)))
-    answers = re.findall(r"(?m)^om 1\nchirotope.*\n(?:[-+0]+\n)+end\n|^.+\n", answers)
-    wanted(len(answers) == len(texts), "%d answers to %d documents", len(answers), len(texts))
-    return [Case(text, answer) for text, answer in zip(texts, answers)]
+    documents = "".join(map(without_verdict, texts))
+    answers = re.findall(r"(?m)^om 1\nchirotope.*\n(?:[-+0]+\n)+end\n|^.+\n", each("convert chirotope", documents))
+    mutations = re.findall(r"(?m)^mutations.*\n((?:[0-9,]+\n)*)", each("mutations", documents))
+    wanted(len(answers) == len(mutations) == len(texts), "%d, %d answers to %d documents", len(answers),
+           len(mutations), len(texts))
+    return [Case(text, answer, lines.split()) for text, answer, lines in zip(texts, answers, mutations)]
 
 
 def text_of(*path):

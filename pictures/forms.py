@@ -81,8 +81,10 @@ def lines_picture(given, form, classes, style, like):
     shown = disk.of_vectors(given.vectors, simple) if form == "disk" and given.vectors else None
     arrangement = shown.arrangement if shown else arrangement_for(given, form, simple, like)
     check_signs(given, arrangement, classes)
-    triples = chosen(arrangement, style.triangles)
     members = {group[0][0]: group for group in classes}
+    # the sign of an element with parallel ones can't be turned alone
+    triples = chosen([mutation.triple for mutation in arrangement.mutations()
+                      if all(len(members[e]) == 1 for e in mutation.triple)], style.triangles)
     if form == "wiring":
         labels = {e: label(members[e], given, flip) for e, flip in zip(arrangement.elements, arrangement.flips)}
         picture, kind = wires.drawn(arrangement, labels, style.size, style.stroke, triples), "wires"
@@ -124,11 +126,10 @@ def check_signs(given, arrangement, classes):
             raise Refused("the signs aren't a chirotope: `om accept` names the violated instance")
 
 
-def chosen(arrangement, triangles):
-    """The mutations that are filled."""
+def chosen(mutations, triangles):
+    """Those of the mutations that are filled."""
     if triangles is None:
         return []
-    mutations = [mutation.triple for mutation in arrangement.mutations()]
     if triangles == "all":
         return mutations
     if triangles not in mutations:
