@@ -17,6 +17,8 @@ TOP = os.path.dirname(os.path.dirname(os.path.abspath(__file__)))
 VERDICTS = (b"realizable", b"nonrealizable", b"undecided", b"limit")
 MOST = 20  # elements of a document
 NUMBERS = [b"%d" % n for n in range(3, MOST + 1)]
+OTHER_KINDS = (b"circuits", b"cocircuits", b"covectors", b"wiring", b"points")
+CONVERT = ": `om-each convert chirotope` writes the chirotope of each document"
 ENDS = (b"end\n", b"more\n")  # the last line of a block
 LINE, LISTING, CLAIM = 0, 1, 2  # how many blocks an answer has: one of check, of extend, of decide
 PIPE_SIZE = getattr(fcntl, "F_SETPIPE_SZ", 1031)
@@ -155,14 +157,16 @@ def lots(items):
 def document(number, first, lines):
     """One document, whose first line has been read."""
     if first != [b"om", b"1"]:
-        raise Refusal("document %d: it doesn't begin with the line `om 1`" % number)
+        raise Refusal("document %d: it doesn't begin with the line `om 1`%s" %
+                      (number, CONVERT if first == [b"om", b"2"] else ""))
     kind = next(lines, None)
     if kind is None:
         raise Refusal("document %d: it breaks off" % number)
     if len(kind) != 3 or kind[:2] != [b"chirotope", b"3"] or kind[2] not in NUMBERS:
+        convert = CONVERT if kind[0] in OTHER_KINDS else ""
         kind = b" ".join(kind).decode(errors="replace")
-        raise Refusal("document %d: `%s`, where chirotopes of rank 3 on at most %d elements are read" %
-                      (number, kind[:40], MOST))
+        raise Refusal("document %d: `%s`, where chirotopes of rank 3 on at most %d elements are read%s" %
+                      (number, kind[:40], MOST, convert))
     n, signs = int(kind[2]), b""
     for words in lines:
         if words == [b"end"]:

@@ -23,6 +23,7 @@ PACKAGES = [
     ("TOPCOM", ["topcom-chiro2circuits"], ["topcom-chiro", "topcom-points2", "/tmp/theirs"]),
     ("nauty", ["labelg", "nauty-labelg"], ["labelg", "catalogue/grow", "catalogue/classes", "catalogue/classify",
                                            "/tmp/classes"]),
+    ("nauty as Debian names it", ["nauty-countg"], ["nauty-countg", "nauty-labelg"]),
     ("GNU parallel", ["parallel"], ["parallel --", "catalogue/classify", "/tmp/classified"]),
     ("pv", ["pv"], ["pv -l"]),
     ("Coq", ["coqc"], ["coqc"]),

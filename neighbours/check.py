@@ -17,7 +17,9 @@ import glob
 import importlib.machinery
 import importlib.util
 import io
+import itertools
 import os
+import random
 import re
 import shutil
 import subprocess
@@ -36,7 +38,7 @@ UNIFORM, POINTS = b"om 1\nchirotope 3 4\n++++\nend\n", b"om 1\npoints 3\n0 0 1\n
 CIRCUITS = b"om 1\ncircuits 2\n+-\n-+\nend\n"
 # each filter with its words and two inputs that it takes one after the other, and of which each gives a text
 GOOD = [("om-to-topcom", UNIFORM, UNIFORM), ("om-points-to-topcom", POINTS, POINTS), ("om-to-lists", UNIFORM, CIRCUITS),
-        ("om-to-order-types 8", POINTS, POINTS),
+        ("om-to-order-types 8", POINTS, POINTS), ("om-to-graph6", CIRCUITS, b"om 1\ncovectors 1\n+\n-\n0\nend\n"),
         ("reverse-order 3 4 --back", UNIFORM, UNIFORM), ("reverse-order 3 4", b"++++\n", b"+0++\n"),
         ("order-types-to-om 3 8", b"abcdef", b"ABCDEF"), ("lists-to-om circuits", b"[[1,-1],[-1,1]]\n", b"[(1, )]\n"),
         ("lists-to-om chirotope 3 4", b"[1,1,1,1]\n", b"[-1,0,1,1]"),
@@ -188,6 +190,58 @@ def look_at_names():
         expect("names of two documents for %r" % answers, ended[:2], (code, written))
 
 
+def look_at_graphs():
+    """Lists have the same canonical graph exactly where renaming and reorienting takes one to the other: of uniform
+    oriented matroids of any rank those of alternating maps, under other names, and others. The symmetries of the
+    alternating one of rank r on n elements are those of a polygon, as long as 1 < r < n - 1."""
+    labelg, countg = (shutil.which(name) or shutil.which("nauty-" + name) for name in ("labelg", "countg"))
+    if not labelg or not countg:
+        print("nauty isn't installed: graphs of lists are not compared")
+        return
+    chance = random.Random(75)
+
+    def canonical(kind, documents, *words):
+        lists = b"".join(om("convert " + kind, it) for it in documents)
+        graphs = run(["om-to-graph6", *words], lists)[1]
+        colours = run(["om-to-graph6", "--colours", "6", *words], b"")[1].decode().strip()
+        return run([labelg, "-q", "-f" + colours], graphs)[1].splitlines()
+
+    def turned(rank, signs, order, flips):
+        """The chirotope under other names, with some elements reoriented."""
+        values = dict(zip(itertools.combinations(range(6), rank), signs))
+        new = ""
+        for chosen in itertools.combinations(range(6), rank):
+            named = [order[it] for it in chosen]
+            turn = sum(x > y for x, y in itertools.combinations(named, 2)) + sum(it in flips for it in chosen)
+            sign = values[tuple(sorted(named))]
+            new += sign if turn % 2 == 0 else {"+": "-", "-": "+", "0": "0"}[sign]
+        return b"om 1\nchirotope %d 6\n%s\nend\n" % (rank, new.encode())
+
+    for rank in 1, 2, 3, 4, 5:
+        size = len(list(itertools.combinations(range(6), rank)))
+        # the first value turned makes another one, where that is a chirotope: so in ranks 2 to 4
+        maps = ["+" * size, "0" + "+" * (size - 1)][:1 + (1 < rank < 5)]
+        documents, plain = [], []
+        for signs in maps:
+            named = [turned(rank, signs, chance.sample(range(6), 6), ()) for _ in range(2)]
+            plain += [named[0], named[1]]
+            documents += [turned(rank, signs, chance.sample(range(6), 6), chance.sample(range(6), 3)) for _ in range(3)]
+        for kind in "circuits", "cocircuits", "covectors":
+            found = canonical(kind, plain + documents)
+            expect("classes of rank %d by %s" % (rank, kind), len(set(found)), len(maps))
+            found = canonical(kind, plain, "--renaming")
+            expect("by renaming alone", (len(found), len(set(found))), (2 * len(maps), len(maps)))
+        # in even rank the first element, reoriented, is the last one
+        reoriented = [turned(rank, maps[0], range(6), {0}), turned(rank, maps[0], range(6), ())]
+        expect("reorientation beside renaming, rank %d" % rank,
+               len(set(canonical("covectors", reoriented, "--renaming"))), 1 + rank % 2)
+    for rank, elements, order in (3, 4, 48), (3, 5, 20), (2, 5, 20), (3, 6, 24), (4, 7, 28):
+        signs = b"+" * len(list(itertools.combinations(range(elements), rank)))
+        lists = om("convert cocircuits", b"om 1\nchirotope %d %d\n%s\nend\n" % (rank, elements, signs))
+        said = run([countg, "--a", "-q", "-1"], run(["om-to-graph6"], lists)[1])[1].split()[:1]
+        expect("symmetries of the alternating one, %d %d" % (rank, elements), said, [b"%d" % order])
+
+
 def bytes_of(text, at):
     text = text.replace(b"/", b"\n").replace(b"\\t", b"\t").replace(b"\\r", b"\r").replace(b"@", at)
     return re.sub(rb"\\x([0-9a-f]{2})", lambda it: bytes([int(it[1], 16)]), text)
@@ -283,6 +337,7 @@ def main():
     look_at_extensions()
     look_at_faults()
     look_at_names()
+    look_at_graphs()
     look_at_refusals()
     os.chdir(TOP)
     for words, first, second in GOOD:

@@ -49,7 +49,8 @@ with open(os.path.join(TOP, "catalogue", "irrational-9.surd"), "rb") as surd:
 # each filter with its words and a good input
 FILTERS = [
     ("om-to-topcom", UNIFORM), ("om-points-to-topcom", POINTS), ("om-to-lists", UNIFORM),
-    ("om-to-order-types 8", POINTS), ("reverse-order 3 4 --back", UNIFORM), ("reverse-order 3 4", b"++++\n"),
+    ("om-to-order-types 8", POINTS), ("om-to-graph6", b"om 1\ncircuits 3\n+-+\n-+-\nend\n"),
+    ("reverse-order 3 4 --back", UNIFORM), ("reverse-order 3 4", b"++++\n"),
     ("order-types-to-om 3 8", b"abcdef"),
     ("lists-to-om circuits", b"[[1,-1],[-1,1]]\n"), ("lists-to-om chirotope 3 4", b"[1,1,1,1]\n"),
     ("lists-to-om points", b"[[0,0,1],[1,0,1]]\n"), ("topcom-to-om", b"4,3:\n++++\n[[0,1,2,3]]\n"),
