@@ -440,7 +440,8 @@ def names_of(document: Asked) -> Tuple[str, ...]:
 def program(name: str) -> str:
     """The path of the program om or om_each: the one that OM or OM_EACH in the environment names; one beside that of
     OM_EACH; the one of the repository, the archive or the installation that this file lies in; or one on the path."""
-    launcher, each = name.replace("_", "-"), shutil.which(os.environ.get("OM_EACH") or "om_each:")
+    launcher = name.replace("_", "-")
+    each = shutil.which(os.environ["OM_EACH"]) if os.environ.get("OM_EACH") else None
     if os.environ.get(name.upper()):
         found = shutil.which(os.environ[name.upper()])
         if found is None:
