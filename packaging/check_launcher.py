@@ -114,7 +114,8 @@ def hints(tree):
         (["./om", "lexext", "4"], b"", b"om: a sign is missing in front of 4: +4 or -4\n"),
         (["./om", "accept", "examples/nothing.om"], b"",
          b"om: there is no file examples/nothing.om; documents come from standard input: om accept < FILE\n"),
-        (["./om", "nothing.om"], b"", b"om: there is no file nothing.om; documents come from standard input: om"),
+        (["./om", "nothing.om"], b"",
+         b"om: there is no file nothing.om; documents come from standard input: om accept < FILE\n"),
         (["./om", "check", "examples/pappus.om", "examples/pappus-vectors.om"], b"",
          b"om: a claim holds its document, and comes from standard input: om check < CLAIM\n"),
         (["./om", "accept", "examples/pappus.om", "examples/loops.om"], b"",
@@ -340,10 +341,10 @@ def builds(tree, room):
     forget()
     expect("both programs", (run(tree, ["packaging/build.sh"], env=environment)[:2], built()),
            ((0, b""), ["ci:om+om_each+om_pieces+om_program+om_rows+om_signs+om_text"]))
-    expect("each in its place", [run(tree, [it, "accept"], UNIFORM, env=environment)[:2] for it in ("./om", "./om-each")],
-           [(0, b"accepted\n")] * 2)
-    stopped = subprocess.Popen(["packaging/build.sh", "om"], stdout=subprocess.PIPE, stderr=subprocess.DEVNULL, cwd=tree,
-                               env=dict(environment, WAITS="yes"))
+    expect("each in its place", [run(tree, [it, "accept"], UNIFORM, env=environment)[:2]
+                                 for it in ("./om", "./om-each")], [(0, b"accepted\n")] * 2)
+    stopped = subprocess.Popen(["packaging/build.sh", "om"], stdout=subprocess.PIPE, stderr=subprocess.DEVNULL,
+                               cwd=tree, env=dict(environment, WAITS="yes"))
     end = time.monotonic() + 10
     while not os.path.exists(calls) and time.monotonic() < end:
         time.sleep(0.02)
