@@ -201,7 +201,7 @@ def look_at_graphs():
     chance = random.Random(75)
 
     def canonical(kind, documents, *words):
-        lists = b"".join(om("convert " + kind, it) for it in documents)
+        lists = out("./om-each convert " + kind, b"".join(documents))
         graphs = run(["om-to-graph6", *words], lists)[1]
         colours = run(["om-to-graph6", "--colours", "6", *words], b"")[1].decode().strip()
         return run([labelg, "-q", "-f" + colours], graphs)[1].splitlines()
