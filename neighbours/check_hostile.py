@@ -43,7 +43,7 @@ BRACKETS = b"[134][179] < [137][149]\n"
 with open(os.path.join(TOP, "examples", "non-pappus-claim.om"), "rb") as claim:
     ENTRIES = b"".join(line for line in claim if not line.startswith(b"#"))
 
-with open(os.path.join(TOP, "catalogue", "irrational-9.surd"), "rb") as surd:
+with open(os.path.join(TOP, "catalogue", "irrational_9.surd"), "rb") as surd:
     SURD = b"".join(line for line in surd if not line.startswith(b"#"))
 
 # each filter with its words and a good input

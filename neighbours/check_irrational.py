@@ -1,7 +1,7 @@
 #!/usr/bin/env python3
 """neighbours/check_irrational.py
 
-Asks whether the shipped theorems of irrational vectors (catalogue/irrational-*.v) are what surd-to-coq writes of their
+Asks whether the shipped theorems of irrational vectors (catalogue/irrational_*.v) are what surd-to-coq writes of their
 data, and surd-to-coq for its message on data that is wrong. Where Coq is installed, coqc has to accept these theorems,
 by the axioms of its real numbers alone, and to refuse each of many wrong variants: of the chirotope a sign, of the
 vectors a number, of the construction a line, and of what the filter computes a coefficient. The last line is
@@ -171,7 +171,7 @@ def compiled(folder, name, text):
 
 
 def main():
-    for path in sorted(glob.glob(os.path.join(CATALOGUE, "irrational-*.surd"))):
+    for path in sorted(glob.glob(os.path.join(CATALOGUE, "irrational_*.surd"))):
         with open(path) as file:
             data = file.read()
         with open(path.replace(".surd", ".v")) as file:
