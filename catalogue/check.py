@@ -26,7 +26,7 @@ THREE = b"om 1\nchirotope 3 3\n+\nend\n"
 FOUR = b"om 1\nchirotope 3 4\n++++\nend\n"
 VECTORS = b"realizable\nvector 1 0 0\nvector 0 1 0\nvector 0 0 1\nvector 1 -1 1\nend\n"
 BROKEN = b"om 1\nchirotope 3 5\n+-++++++++\nend\n"
-CLIMBED = "a27f1775ec4f438c"  # the SHA-256 of the claims of climb for 80 documents begins so
+CLIMBED = "24066a91ec21955c"  # the SHA-256 of the claims of climb for 30 documents begins so
 RUN = b"# all 9: 1 classes, SHA-256 1, by realize\n000000 1 1 0 0 0 0 1 1 0123456789abcdef\n"
 CUT = FOUR + b"om 1\nchirotope 3 4\n++++\n"
 
@@ -159,7 +159,7 @@ def climbs():
         done = run(["climb", *words], b"".join(left))
         compare("climb, documents that are left", (0, b"".join(left)), answer_of(done))
     with gzip.open(os.path.join(HERE, "realizable-8.claims.gz"), "rb") as file:
-        documents = document_parts(file.read())[:80]
+        documents = document_parts(file.read())[:30]
     claims = run(["climb"], b"".join(documents)).stdout
     compare("climb, the classes on up to 6 and some on 7", len(documents), claims.count(b"\nrealizable # start "))
     compare("climb, bytes", CLIMBED, hashlib.sha256(claims).hexdigest()[:16])
