@@ -3,9 +3,10 @@
 
 Looks up what the pages name: each link, each file, and each crate, call and definition that stands between backticks.
 A name is looked up in the sources of the repository; a file from the top, from the folder of the page, or by its name
-alone. Then it asks for the size of README, and whether what is made stands as it is made now: the crates and layers of
-docs/ARCHITECTURE.md (layers.py), its picture (picture.py), and docs/INDEX.md (index.py). The last line is
-'pages: N passed, M failed', and the exit code is 1 if one failed.
+alone. Then it asks for the size of README, for the form and the size of the entries of docs/DECISIONS.md, and whether
+what is made stands as it is made now: the crates and layers of docs/ARCHITECTURE.md (layers.py), its picture
+(picture.py), and docs/INDEX.md (index.py). The last line is 'pages: N passed, M failed', and the exit code is 1 if one
+failed.
 """
 import os
 import re
@@ -23,7 +24,8 @@ NAME = re.compile(r"(?:[A-Za-z_]\w*::)*[A-Za-z_]\w*")
 # pages that name calls of other programs
 OTHERS = {"neighbours/COQ.md", "neighbours/POLYMAKE.md", "neighbours/SAGE.md", "neighbours/TOPCOM.md"}
 MOST_LINES, MOST_WORDS = 150, 1500
-ARCHITECTURE, INDEX = "docs/ARCHITECTURE.md", "docs/INDEX.md"
+ARCHITECTURE, INDEX, DECISIONS = "docs/ARCHITECTURE.md", "docs/INDEX.md", "docs/DECISIONS.md"
+MOST_OF_ENTRY = 600
 
 
 def tracked():
@@ -98,12 +100,21 @@ def main():
             failed += not there
             if not there:
                 print("%s: `%s` isn't there" % (page, name))
-        for made, stands, command in ((ARCHITECTURE, layers.stands_in, "layers.py"), (INDEX, index.stands_in, "index.py")):
+        for made, stands, command in ((ARCHITECTURE, layers.stands_in, "layers.py"),
+                                      (INDEX, index.stands_in, "index.py")):
             if page == made:
                 passed += stands(text)
                 failed += not stands(text)
                 if not stands(text):
                     print("%s isn't what the sources give: run docs/%s --write" % (page, command))
+        if page == DECISIONS:
+            for entry in re.findall(r"^- \*\*.*$", text, re.M):
+                whole = len(entry) <= MOST_OF_ENTRY and " Why: " in entry and " Cost: " in entry
+                passed += whole
+                failed += not whole
+                if not whole:
+                    print("%s: an entry has no 'Why:' or 'Cost:', or is longer than %d characters: %s"
+                          % (page, MOST_OF_ENTRY, entry[:60]))
         if page == "README.md":
             sizes = ((len(text.splitlines()), MOST_LINES, "lines"), (len(text.split()), MOST_WORDS, "words"))
             for size, most, what in sizes:
