@@ -1,11 +1,12 @@
 #!/usr/bin/env python3
-"""docs/layers.py [--write | --below CRATE ..]
+"""docs/layers.py [--write | --below CRATE .. | --above CRATE ..]
 
 Prints what each crate holds, and the layers of the crates. What a crate holds is the first sentence of its README,
 and the groups are those below. The layers come from crates.txt: a crate is in the first layer above all crates that it
 uses, and after it come the crates that it uses, without those that another of them uses already. With --write both are
 put into docs/ARCHITECTURE.md, between the lines that begin and end them there. With --below the crates that are named
-are printed, and all crates below them, the lowest first.
+are printed, and all crates below them, the lowest first. With --above the crates that stand on one of them are printed,
+the lowest first: a change of the named crates has these proved again.
 """
 import os
 import re
@@ -102,6 +103,12 @@ def with_lower(names):
     return found
 
 
+def above(names):
+    """The crates that stand on one of these, each after those that it uses."""
+    with_lower(names)  # refuses a name that no crate has
+    return [it for it in with_lower(list(crates())) if it not in names and set(with_lower([it])) & set(names)]
+
+
 def stands_in(page):
     """Whether the page has these layers, and says of each crate what it holds."""
     return BEGIN + layers() + END in page and FIRST + groups() + LAST in page
@@ -119,6 +126,9 @@ def put(page, begin, text, end):
 def main():
     if sys.argv[1:2] == ["--below"] and len(sys.argv) > 2:
         print("\n".join(with_lower(sys.argv[2:])))
+        return
+    if sys.argv[1:2] == ["--above"] and len(sys.argv) > 2:
+        print("\n".join(above(sys.argv[2:])))
         return
     if sys.argv[1:] != ["--write"]:
         sys.exit(__doc__) if sys.argv[1:] else print(groups() + "\n" + layers(), end="")
