@@ -147,7 +147,8 @@ def main():
             for file in ("man/man1/om.1", "man/man1/om-each.1", "bash-completion/completions/om",
                          "bash-completion/completions/om-each", "zsh/site-functions/_om",
                          "fish/vendor_completions.d/om.fish", "om/neighbours/om.py",
-                         "om/neighbours/python/pyproject.toml", "doc/om/README.md", "doc/om/docs/FORMATS.md", "doc/om/PROVED"):
+                         "om/neighbours/python/pyproject.toml", "doc/om/README.md", "doc/om/docs/FORMATS.md",
+                         "doc/om/pictures/non-pappus.svg", "doc/om/PROVED"):
                 expect("%s in %s" % (file, where), os.path.isfile(os.path.join(where, "share", file)), True)
             expect("links in " + where, broken_links(where), [])
             expect("no checks in " + where, [it for it in files_below(where) if re.search("/check[^/]*[.]py$", it)], [])
