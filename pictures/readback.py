@@ -2,8 +2,8 @@
 
 `lines_of` reads a disk or a wiring and gives the sign of each triple of drawn lines: a point where two lines cross lies
 on the positive side of a third one, on its negative side or on it, and the second of the two comes over to the positive
-side of the first or to its negative side. `points_of` reads points and arrows as vectors. A picture that can't be read
-so is a `Fault`. Python's standard library alone.
+side of the first or to its negative side. `Points` reads points and arrows as vectors. A picture that can't be read so
+is a `Fault`. Python's standard library alone.
 """
 import re
 import xml.etree.ElementTree as ElementTree
