@@ -105,7 +105,7 @@ point ../../bin/om share/om/om
 point ../../bin/om-each share/om/om-each
 put 644 share/doc/om "$here/README.md" "$here/CONTRIBUTING.md" "$here/CHANGELOG.md" "$here"/LICENSE-* "$here/CITATION.cff" \
   "$here/VERSION" "$here/PROVED"
-put 644 share/doc/om/docs "$here"/docs/*.md
+put 644 share/doc/om/docs "$here"/docs/*.md "$here"/docs/*.svg
 # the pages link to one another as they do in the repository
 for crate in "$here"/crates/*; do
   put 644 "share/doc/om/crates/${crate##*/}" "$crate/README.md"

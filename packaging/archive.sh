@@ -26,7 +26,7 @@ for folder in man completions neighbours catalogue pictures examples rows; do
   [ ! -d "$folder" ] || cp -R "$folder" "$tree/"
 done
 mkdir "$tree/docs"
-cp docs/*.md "$tree/docs/"
+cp docs/*.md docs/*.svg "$tree/docs/"
 # the pages link to those of the crates
 for page in crates/*/README.md; do
   mkdir -p "$tree/${page%/*}"
