@@ -37,7 +37,7 @@ def expect(what, found, wanted):
 def run(words, room, **variables):
     """The exit code, the output and the errors of a run in a folder of its own; a variable that is None isn't set."""
     environment = {name: value for name, value in {**os.environ, **OFFLINE, **variables}.items() if value is not None}
-    ended = subprocess.run(words, cwd=room, env=environment, capture_output=True, text=True, timeout=300)
+    ended = subprocess.run(words, cwd=room, env=environment, capture_output=True, text=True, timeout=3600)
     return ended.returncode, ended.stdout, ended.stderr
 
 
