@@ -4,9 +4,13 @@ pub mod Exchanged
 pub mod Deletions
 pub mod Extensions
 pub mod Signatures
-pub mod Halves
+pub mod NegatedLast
 pub mod Covers
 pub mod SimpleSteps
 pub mod UniformSteps
 pub mod Triangles
 pub mod Listings
+pub mod GrownMaps
+pub mod CoversByLines
+pub mod HalfTests
+pub mod SizeLaws

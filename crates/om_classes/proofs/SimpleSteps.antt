@@ -28,8 +28,8 @@ use Rattle.om_classes.proofs.Simple.{acted_simple}
 use Rattle.om_classes.proofs.Exchanged.{some_basis_before_last}
 use Rattle.om_classes.proofs.Deletions.{deletion_axioms, is_extension, deletion_simple}
 use Rattle.om_classes.proofs.Signatures.{apart_of_basis, basis_of_apart, basis_up, rank_three}
-use Rattle.om_classes.proofs.Halves.{led_or_zero, led_negated, last_negated, negation_permutation, negated_extension}
-use Rattle.om_classes.proofs.Halves.{negated_signature}
+use Rattle.om_classes.proofs.NegatedLast.{led_or_zero, led_negated, last_negated, negation_permutation}
+use Rattle.om_classes.proofs.NegatedLast.{negated_extension, negated_signature}
 use Rattle.om_classes.proofs.Covers.{HasBelow, HasTried, IsStep}
 
 -- ---- extensions of a map

@@ -12,7 +12,7 @@ ghost use Rattle.om_symmetry.specs.declared.signed_element.SignedElement.{Signed
 ghost use Rattle.om_symmetry.specs.Permutations.{IsSignedPermutation, acted, lifted};
 ghost use Rattle.om_classes.specs.Classes.{IsSimple, IsUniform, HasBasisBeforeLast, IsSimpleChirotope};
 ghost use Rattle.om_classes.specs.Classes.{IsUniformChirotope, IsComplete};
-ghost use Rattle.om_classes.specs.Covers.{IsSimpleHalf, IsUniformHalf, IsCover, triangle};
+ghost use Rattle.om_classes.specs.Covers.{IsSimpleHalf, IsUniformHalf, IsCover, IsCoverByLines, triangle};
 
 /// In the image of a simple map every two elements are together in some basis too, and the image of a uniform map is
 /// uniform.
@@ -25,8 +25,8 @@ pub fn images_of_simple_chirotopes()
         → IsUniform (acted w m) }
 {}
 
-/// A chirotope of fewer than n elements in each basis has an image in which some basis doesn't have the last of the n
-/// elements.
+/// A chirotope whose rank is below the number of its elements has an image in which some basis doesn't have the last
+/// element.
 ///
 /// Source: Björner, Las Vergnas, Sturmfels, White and Ziegler, *Oriented Matroids*, chapter 3.
 pub fn last_element_off_a_basis()
@@ -85,4 +85,17 @@ pub fn next_list_is_complete()
         → IsCover (IsSimpleHalf n) n classes next → IsComplete (IsSimpleChirotope (n + 1)) next }
     ensures uniform { (n : ℕ) (classes next : List SignMap) → 3 ≤ n → IsComplete (IsUniformChirotope n) classes
         → IsCover IsUniformHalf n classes next → IsComplete (IsUniformChirotope (n + 1)) next }
+{}
+
+/// A cover that is found line by line is a cover. For each member of a complete list and each of its signatures that
+/// are led by minus and not zero at all pairs with some element, let some signed permutation take the extension with
+/// this signature to a member of the next list, and let each member of that list be reached. It is the same for
+/// uniform chirotopes, with signatures that are led by minus and have no zero.
+///
+/// Source: Björner, Las Vergnas, Sturmfels, White and Ziegler, *Oriented Matroids*, chapter 7.
+pub fn cover_by_lines()
+    ensures simple { (n : ℕ) (classes next : List SignMap) → IsComplete (IsSimpleChirotope n) classes
+        → IsCoverByLines (IsSimpleHalf n) n classes next → IsCover (IsSimpleHalf n) n classes next }
+    ensures uniform { (n : ℕ) (classes next : List SignMap) → IsComplete (IsUniformChirotope n) classes
+        → IsCoverByLines IsUniformHalf n classes next → IsCover IsUniformHalf n classes next }
 {}

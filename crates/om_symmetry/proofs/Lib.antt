@@ -3,6 +3,7 @@ pub mod Places
 pub mod Products
 pub mod Lifts
 pub mod Images
+pub mod Making
 pub mod Reading
 pub mod Steps
 pub mod Tuples
