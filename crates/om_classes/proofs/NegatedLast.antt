@@ -10,10 +10,10 @@ use Rattle.om_signs.specs.declared.sign.Sign.{Sign}
 use Rattle.om_signs.specs.declared.sign.Sign.TheVariants.{Minus, Zero, Plus}
 use Rattle.om_signs.specs.Sign.{opposite, product}
 use Rattle.om_signs.specs.SignVec.{at}
+use Rattle.om_signs.proofs.ListPlaces.{at-map-opposite}
 use Rattle.om_subsets.specs.Subsets.{IsSubsetFrom, IsMember, all_subsets}
 use Rattle.om_subsets.proofs.Statements.{subset_is_increasing}
 use Rattle.om_laws.specs.Reorientation.{turning, signs_product, reoriented}
-use Rattle.om_laws.proofs.BridgeLaws.{as_function-negated}
 use Rattle.om_laws.proofs.TurnedVectors.{signs_product_middle}
 use Rattle.om_chirotope.specs.Map.{SignMap, chi_of, IsLedBy}
 use Rattle.om_denotation.proofs.Rules.{rule_at}
@@ -48,12 +48,9 @@ led_or_zero (Zero ∷ xs) = elim (led_or_zero xs) [
     each h zero = refl
     each h (suc k) = h k
 
-at_negated : (xs : List Sign) (k : ℕ) → at (map opposite xs) k ≡ opposite (at xs k)
-at_negated xs k = as_function-negated xs (suc k)
-
 pub led_negated : (xs : List Sign) → IsLedBy Plus xs → IsLedBy Minus (map opposite xs)
 led_negated xs (k, q, before) =
-    (k, at_negated xs k ∙ ap opposite q, λ j l. at_negated xs j ∙ ap opposite (before j l))
+    (k, at-map-opposite xs k ∙ ap opposite q, λ j l. at-map-opposite xs j ∙ ap opposite (before j l))
 
 -- ---- the negation of the last element
 

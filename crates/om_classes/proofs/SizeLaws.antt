@@ -1,22 +1,15 @@
 -- Sizes of signatures, and the pair that is left of three elements.
 --
--- Main results: signature_length, few_signs, pair_place.
+-- Main results: few_signs, pair_place.
 use Rattle.std.proofs.Common.{ℕ, ◌≡◌, ◌<◌, ◌≤◌, List, length, ap, subst, ◌∙◌, arith}
-use Rattle.om_signs.specs.declared.sign.Sign.{Sign}
 use Rattle.om_signs.specs.declared.limits.TheConstants.{MAX_ELEMENTS}
 use Rattle.om_subsets.specs.Subsets.{IsSubsetFrom, IsMember, choose, without_element}
-use Rattle.om_chirotope.specs.Map.{SignMap}
 use Rattle.om_chirotope.proofs.Circuits.{length-without}
 use Rattle.om_localize.specs.declared.signature.TheConstants.{MAX_PAIRS}
-use Rattle.om_localize.specs.Extensions.{IsSignature}
-use Rattle.om_localize.proofs.Localizations.{signature_size}
 use Rattle.om_localize.proofs.OpenLaws.{few_pairs}
 
 pub few_signs : (n : ℕ) → n < MAX_ELEMENTS → choose n 2 ≤ MAX_PAIRS
 few_signs n l = few_pairs n (omega arith)
-
-pub signature_length : (m : SignMap) (signs : List Sign) → IsSignature m signs → length signs ≡ choose m.elements 2
-signature_length m signs h = signature_size m signs h
 
 pair_size : (n e : ℕ) (xs : List ℕ) → IsSubsetFrom 1 n xs → length xs ≡ 3 → IsMember e xs
     → length (without_element e xs) ≡ 2

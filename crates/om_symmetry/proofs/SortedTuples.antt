@@ -4,15 +4,15 @@
 -- where it is distinct and its sorted list is a basis (basis_of_tuple, tuple_of_basis).
 use Rattle.std.proofs.Common.{ℕ, ◌≡◌, ◌≢◌, ◌<◌, ◌↔◌, List, [], ◌∷◌, length, refl, sym}
 use Rattle.std.proofs.Common.{◌∙◌, inl, inr, ⊎_elim, arith}
-use Rattle.std.proofs.lemmas.Bool.{cases_lt, lt-ltb, le-ltb}
 use Rattle.om_signs.specs.declared.sign.Sign.TheVariants.{Zero}
-use Rattle.om_signs.proofs.SignLaws.{plus_nonzero, minus_nonzero, product_nonzero, right_factor_nonzero}
+use Rattle.om_signs.proofs.SignLaws.{product_nonzero, right_factor_nonzero}
 use Rattle.om_subsets.specs.Subsets.{IsSubsetFrom}
 use Rattle.om_subsets.proofs.Statements.{members_with}
 use Rattle.om_laws.specs.Members.{IsMember, IsDistinct}
 use Rattle.om_laws.specs.Signs.{IsNonzero}
 use Rattle.om_laws.specs.Sorting.{IsElement, Each, IsTuple}
 use Rattle.om_laws.specs.Tuples.{sorted, sort_sign, before_sign, order_sign}
+use Rattle.om_laws.proofs.BlockLaws.{sort_sign_nonzero}
 use Rattle.om_laws.proofs.TupleLaws.{value_alternating, nonzero_distinct}
 use Rattle.om_chirotope.specs.Map.{SignMap, chi_of, value_of}
 use Rattle.om_chirotope.specs.ThreeTerm.{IsBasis}
@@ -43,23 +43,6 @@ sorted_set n (x ∷ t) w d =
       );
     })
 
--- ---- the sign of the permutation that sorts
-
-order_nonzero : (x y : ℕ) → x ≢ y → IsNonzero (order_sign x y)
-order_nonzero x y n = elim (cases_lt x y) [
-  | inl lt ↦ rw (lt-ltb x y lt) plus_nonzero
-  | inr ge ↦ let lt : y < x = omega arith in rw (le-ltb x y ge, lt-ltb y x lt) minus_nonzero
-]
-
-before_nonzero : (x : ℕ) (t : List ℕ) → (IsMember x t → ⊥) → IsNonzero (before_sign x t)
-before_nonzero x [] off = plus_nonzero
-before_nonzero x (y ∷ t) off = product_nonzero (order_sign x y) (before_sign x t) (order_nonzero x y (λ q. off (inl q)))
-    (before_nonzero x t (λ m. off (inr m)))
-
-sort_nonzero : (t : List ℕ) → IsDistinct t → IsNonzero (sort_sign t)
-sort_nonzero [] d = plus_nonzero
-sort_nonzero (x ∷ t) d = product_nonzero (before_sign x t) (sort_sign t) (before_nonzero x t d.0) (sort_nonzero t d.1)
-
 -- ---- bases
 
 module _ (m : SignMap) (t : List ℕ) (h : IsTuple m.elements m.rank t) where
@@ -77,5 +60,5 @@ module _ (m : SignMap) (t : List ℕ) (h : IsTuple m.elements m.rank t) where
       }
 
   pub tuple_of_basis : IsDistinct t → IsBasis m (sorted t) → value_of m t ≢ Zero
-  tuple_of_basis d b = product_nonzero (sort_sign t) (chi_of m (sorted t)) (sort_nonzero t d)
+  tuple_of_basis d b = product_nonzero (sort_sign t) (chi_of m (sorted t)) (sort_sign_nonzero t d)
       (λ z. b.nonzero (value_in_order 1 m.elements (chi_of m) (sorted t) b.list ∙ z))

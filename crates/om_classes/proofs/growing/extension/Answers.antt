@@ -3,14 +3,14 @@ use Rattle.om_subsets.specs.Subsets.{choose}
 use Rattle.om_subsets.proofs.Walks.{at_next}
 use Rattle.om_chirotope.specs.Chirotope.{IsChirotope}
 use Rattle.om_localize.specs.Extensions.{IsExtension, signature_of}
+use Rattle.om_localize.proofs.Localizations.{signature_size}
 use Rattle.om_symmetry.proofs.Making.{sign_more, made_map}
 use Rattle.om_classes.specs.Growing.{grown_sign}
 use Rattle.om_classes.proofs.GrownMaps.{grown_extension}
-use Rattle.om_classes.proofs.SizeLaws.{signature_length}
 use Rattle.om_classes.proofs.growing.extension.Goals as goal
 
 pub extended_sign-requires-clause-length : goal.extended_sign-requires-clause-length
-extended_sign-requires-clause-length c = signature_length c.args.chi.now c.args.signature c.requires.signature
+extended_sign-requires-clause-length c = signature_size c.args.chi.now c.args.signature c.requires.signature
 
 pub loop-place-preserved : goal.loop-place-preserved
 loop-place-preserved c =
