@@ -2,16 +2,15 @@
 --
 -- Main results: the sorted list of a distinct tuple has its elements (sorted_set); a tuple has a nonzero value exactly
 -- where it is distinct and its sorted list is a basis (basis_of_tuple, tuple_of_basis).
-use Rattle.std.proofs.Common.{ℕ, ◌≡◌, ◌≢◌, ◌<◌, ◌↔◌, List, [], ◌∷◌, length, refl, sym}
+use Rattle.std.proofs.Common.{ℕ, ◌≡◌, ◌≢◌, ◌↔◌, List, [], ◌∷◌, length, refl, sym}
 use Rattle.std.proofs.Common.{◌∙◌, inl, inr, ⊎_elim, arith}
 use Rattle.om_signs.specs.declared.sign.Sign.TheVariants.{Zero}
 use Rattle.om_signs.proofs.SignLaws.{product_nonzero, right_factor_nonzero}
 use Rattle.om_subsets.specs.Subsets.{IsSubsetFrom}
 use Rattle.om_subsets.proofs.Statements.{members_with}
 use Rattle.om_laws.specs.Members.{IsMember, IsDistinct}
-use Rattle.om_laws.specs.Signs.{IsNonzero}
 use Rattle.om_laws.specs.Sorting.{IsElement, Each, IsTuple}
-use Rattle.om_laws.specs.Tuples.{sorted, sort_sign, before_sign, order_sign}
+use Rattle.om_laws.specs.Tuples.{sorted, sort_sign}
 use Rattle.om_laws.proofs.BlockLaws.{sort_sign_nonzero}
 use Rattle.om_laws.proofs.TupleLaws.{value_alternating, nonzero_distinct}
 use Rattle.om_chirotope.specs.Map.{SignMap, chi_of, value_of}
