@@ -4,7 +4,7 @@
 Prints an index of the definitions that contracts may cite: every public definition of the files `specs/*.antt`, by
 name, with its crate, its file and the comment above it. With WORD only those whose name holds it. The last line
 counts them. With --calls an index of the public calls, types and constants is printed, crate by crate, each with the
-first sentence of its documentation and a link to its file. With --write that one is put into docs/INDEX.md, which
+first sentence of its documentation and its file. With --write that one is put into docs/INDEX.md, which
 docs/check.py compares with it.
 """
 import os
@@ -103,9 +103,10 @@ def calls():
                     if (owner or name) in modules:
                         module = modules[owner or name]
                         called = "::".join(it for it in (module, owner, name) if it)
-                        rows.append("| [`%s`](../%s) | %s |\n" % (called, os.path.relpath(path, TOP), sentence(said)))
+                        inside = os.path.relpath(path, os.path.join(TOP, "crates", crate))
+                        rows.append("| `%s` | %s | `%s` |\n" % (called, sentence(said), inside))
         if rows:
-            parts.append("## %s\n\n| Name | Says |\n|---|---|\n%s" % (crate, "".join(sorted(dict.fromkeys(rows)))))
+            parts.append("## %s\n\n| Name | Says | File |\n|---|---|---|\n%s" % (crate, "".join(sorted(dict.fromkeys(rows)))))
             count += len(dict.fromkeys(rows))
     head = ("# Index of the public items\n\nThe %d documented calls, types and constants that the crates show, each "
             "with the first sentence of its documentation. `docs/index.py --write` makes this page, and the gate "
