@@ -366,6 +366,8 @@ def stopped_by_hand(folder):
     """Control-C, which goes to all programs of the terminal, ends it with 130 in each of its stages, and the same
     command goes on."""
     words = [os.path.join(HERE, "classify"), folder, "uniform", "8"]
+    # a check that runs in the background is started with SIGINT ignored, and a shell can't trap a signal that was
+    signal.signal(signal.SIGINT, signal.default_int_handler)
     for stage in ("uniform-7.grown/*", "uniform-8.blocks/heading"):
         process = subprocess.Popen(words, stdout=subprocess.PIPE, stderr=subprocess.PIPE, start_new_session=True)
         end = time.monotonic() + 120
