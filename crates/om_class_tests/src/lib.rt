@@ -1,0 +1,7 @@
+//! The tests of the public calls of om_symmetry and om_classes.
+#![tactic(auto)]
+
+#[cfg(test)]
+mod growing;
+#[cfg(test)]
+mod images;
