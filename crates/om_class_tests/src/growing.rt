@@ -4,7 +4,7 @@ ghost use Rattle.std.specs.Prelude.{◌≡◌, All};
 ghost use Rattle.om_localize.specs.Extensions.{IsSignature};
 
 use om_chirotope::Chirotope;
-use om_classes::extension;
+use om_covers::extension;
 use om_localize::{Signature, extensions};
 use om_samples::chirotope_of;
 use om_signs::Sign;

@@ -1,4 +1,4 @@
-//! The tests of the public calls of om_symmetry and om_classes.
+//! The tests of the public calls of om_symmetry and om_covers.
 #![tactic(auto)]
 
 #[cfg(test)]

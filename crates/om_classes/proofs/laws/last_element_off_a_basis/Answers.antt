@@ -1,5 +1,0 @@
-use Rattle.om_classes.proofs.Exchanged.{some_basis_before_last}
-use Rattle.om_classes.proofs.laws.last_element_off_a_basis.Goals as goal
-
-pub returns : goal.returns
-returns c = λ m om lt. some_basis_before_last m om lt
