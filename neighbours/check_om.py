@@ -366,7 +366,7 @@ def named(om):
 
 
 def types():
-    """mypy --strict accepts the module, and a caller by its types."""
+    """mypy --strict accepts the module, what makes its package, and a caller by its types."""
     if not shutil.which("mypy"):
         print("mypy isn't installed: the types of om.py are not looked at")
         return
@@ -378,9 +378,10 @@ def types():
                        "    for lines in bench.each('accept', [document, str(document)]):\n"
                        "        first: str = lines[0]\n"
                        "    return tuple(om.sign_vector(it) for it in bench.convert(document, 'circuits').body)\n")
-        ended = subprocess.run(["mypy", "--strict", "--no-incremental", os.path.join(HERE, "om.py"), file.name],
+        ours = [os.path.join(HERE, *path) for path in (["om.py"], ["python", "build_om.py"])]
+        ended = subprocess.run(["mypy", "--strict", "--no-incremental", *ours, file.name],
                                stdout=subprocess.PIPE, cwd=room, env=dict(os.environ, MYPYPATH=HERE), text=True)
-    expect("mypy --strict", (ended.returncode, ended.stdout), (0, "Success: no issues found in 2 source files\n"))
+    expect("mypy --strict", (ended.returncode, ended.stdout), (0, "Success: no issues found in 3 source files\n"))
 
 
 def pages():

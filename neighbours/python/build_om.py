@@ -10,6 +10,9 @@ import io
 import os
 import tarfile
 import zipfile
+from typing import Any, Mapping, Optional
+
+Settings = Optional[Mapping[str, Any]]  # what pip was told behind --config-settings, none of which is looked at
 
 HERE = os.path.dirname(os.path.abspath(__file__))
 SOURCES = {"om.py": "../om.py", "VERSION": "../../VERSION", "LICENSE-MIT": "../../LICENSE-MIT",
@@ -32,18 +35,19 @@ names, or om-each on the path.
 WHEEL = "Wheel-Version: 1.0\nGenerator: build_om\nRoot-Is-Purelib: true\nTag: py3-none-any\n"
 
 
-def source(name):
+def source(name: str) -> bytes:
     """The bytes of a file of the package."""
     beside = os.path.join(HERE, name)
     with open(beside if os.path.exists(beside) else os.path.join(HERE, SOURCES[name]), "rb") as file:
         return file.read()
 
 
-def version():
+def version() -> str:
     return source("VERSION").decode().strip()
 
 
-def build_wheel(wheel_directory, config_settings=None, metadata_directory=None):
+def build_wheel(wheel_directory: str, config_settings: Settings = None,
+                metadata_directory: Optional[str] = None) -> str:
     """Writes the package in the form that is installed, and returns its file's name."""
     about = "om_workbench-%s.dist-info/" % version()
     files = {"om/__init__.py": source("om.py"), "om/py.typed": b"", about + "METADATA": (METADATA % version()).encode(),
@@ -63,7 +67,7 @@ def build_wheel(wheel_directory, config_settings=None, metadata_directory=None):
     return name
 
 
-def build_sdist(sdist_directory, config_settings=None):
+def build_sdist(sdist_directory: str, config_settings: Settings = None) -> str:
     """Writes an archive of the sources, from which the package can be built elsewhere, and returns its file's name."""
     name = "om_workbench-%s" % version()
     files = {it: source(it) for it in ("pyproject.toml", "build_om.py", *SOURCES)}
