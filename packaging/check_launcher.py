@@ -23,14 +23,14 @@ TOP = os.path.dirname(os.path.dirname(os.path.abspath(__file__)))
 TALLY = {True: 0, False: 0}
 UNIFORM = b"om 1\nchirotope 3 4\n++++\nend\n"
 # it proves crates, but the one that FAILS names, notes each call in a file, and gives a program where there is none; with
-# WAITS it waits to be stopped
+# WAITS it goes on for twenty seconds, and SIGTERM doesn't end it
 STAND_IN = """#!/bin/sh
 name=${PWD##*/}
 case $1 in
   doc) echo "$PAGE" ;;
   ci)
     echo "ci:$(ls crates | paste -sd+)" >>"$BUILT"
-    [ -z "${WAITS-}" ] || { cd crates/om_text && exec sleep 20; }
+    [ -z "${WAITS-}" ] || { trap '' TERM; cd crates/om_text && exec sleep 20; }
     ls -d crates/*/must-fail crates/*/out 2>/dev/null && exit 2
     for crate in om_signs om_rows om_text om_pieces om_program om om_each; do
       [ -f "crates/$crate/src/lib.rt" ] && grep -q "^$crate:" crates.txt || continue
@@ -349,7 +349,10 @@ def builds(tree, room):
     while not os.path.exists(calls) and time.monotonic() < end:
         time.sleep(0.02)
     stopped.terminate()
+    asked = time.monotonic()
     expect("one that is stopped", (stopped.wait(timeout=60), built()), (130, [of_om]))
+    # within two seconds on an idle machine; rt would go on for twenty
+    expect("it doesn't wait for rt", time.monotonic() - asked < 10, True)
     expect("no folder is left behind", emptied(away), [])
     ours, theirs = os.openpty()
     # a check that runs in the background is started with SIGINT ignored, and a shell can't trap a signal that was
@@ -361,7 +364,9 @@ def builds(tree, room):
         if select.select([ours], [], [], 0.1)[0]:
             shown += os.read(ours, 65536)
     stopped.send_signal(signal.SIGINT)
+    asked = time.monotonic()
     expect("one that is stopped at a terminal", (stopped.wait(timeout=60), built()), (130, [of_om]))
+    expect("it doesn't wait for rt there", time.monotonic() - asked < 10, True)
     named = re.search(rb"om: 0 of 6 crates proved, 0 min \d\d s: om_text", shown)
     expect("a crate at work is named, %r" % shown[-200:], named is None, False)
     expect("no folder is left behind then", emptied(away), [])
