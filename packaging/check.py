@@ -97,8 +97,10 @@ def look_at_removal(where, environment):
     expect("what is left", files_below(where), ["share/om/mine"])
     expect("folders that are left", sorted(os.listdir(where)), ["share"])
     expect("nothing to uninstall", run([install, "--uninstall", where], b"", environment)[0], 1)
+    # with DESTDIR, so that an install.sh which takes these words leaves the machine alone
+    elsewhere = dict(environment, DESTDIR=os.path.join(os.path.dirname(where), "elsewhere"))
     for words in ([""], ["--uninstall", ""], ["--no"], ["a", "b"], ["--uninstall", "a", "b"]):
-        expect("install.sh %s" % words, run([install, *words], b"", environment)[:2], (2, b""))
+        expect("install.sh %s" % words, run([install, *words], b"", elsewhere)[:2], (2, b""))
 
 
 def main():
