@@ -8,7 +8,7 @@ use om_symmetry::{SignedElement, SignedPermutation};
 use std::alloc::Global;
 
 /// An element as it is.
-const fn plain(element: u8) -> SignedElement {
+pub const fn plain(element: u8) -> SignedElement {
     SignedElement {
         element,
         negated: false,
@@ -16,7 +16,7 @@ const fn plain(element: u8) -> SignedElement {
 }
 
 /// The negative of an element.
-const fn negative(element: u8) -> SignedElement {
+pub const fn negative(element: u8) -> SignedElement {
     SignedElement {
         element,
         negated: true,
