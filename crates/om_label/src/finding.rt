@@ -10,8 +10,9 @@ use om_chirotope::Chirotope;
 use om_signs::MAX_ELEMENTS;
 use om_symmetry::SignedPermutation;
 
-/// A signed permutation of the elements of a chirotope of rank 3. If it is simple, the image under it is the same for
-/// all chirotopes that are isomorphic to it: a normal form of its class.
+/// The label of a chirotope of rank 3: a signed permutation of its elements. The image of a simple chirotope under its
+/// label is a normal form: all chirotopes that are isomorphic to it have the same one. That is tested, and not proved.
+/// With loops or parallel elements the label is some signed permutation.
 ///
 /// The elements of a simple chirotope of rank 3 are the pseudolines of an arrangement. An element, a first crossing on
 /// it, a direction along it and a side of it fix an order and signs of all elements. Of the images under these
