@@ -2,17 +2,18 @@
 """bench/run.py [--runs N] [--earlier PROGRAM]
 
 Builds the program and times it, the whole process each time, on inputs that it makes itself. Prints a table: the
-least time of N runs (5), the rate, the target (a rate or a time), and how many times better than the target the
-measured one is. PROGRAM is the program of an earlier state, built elsewhere: searches run beside it, one run of each
-in turn, have to write the same, and have a part of its time as their target. Then all other commands of the table run
-in the same way beside it, and a second table shows both times. A command that the earlier program answers in another
-way is named as such.
+least time of N runs (5), the rate, the target (a rate, a time, or a time that is wanted at least), and how many times
+better than the target the measured one is. PROGRAM is the program of an earlier state, built elsewhere: searches run
+beside it, one run of each in turn, have to write the same, and have a part of its time as their target. Then all other
+commands of the table run in the same way beside it, and a second table shows both times. A command that the earlier
+program answers in another way is named as such.
 """
 import argparse
 import itertools
 import math
 import os
 import random
+import resource
 import subprocess
 import sys
 import tempfile
@@ -137,10 +138,12 @@ def least_time(words, data, runs, wanted, processors=None, program=PROGRAM):
     return best
 
 
-def row(name, took, amount, unit, target_rate=None, target_time=None):
+def row(name, took, amount, unit, target_rate=None, target_time=None, least_time_wanted=None):
     rate = "%.1f %s" % (amount / took, unit) if unit else ""
     if target_rate is not None:
         target, ratio = "%.1f %s" % (target_rate, unit), amount / took / target_rate
+    elif least_time_wanted is not None:
+        target, ratio = "%.4f s or more" % least_time_wanted, took / least_time_wanted
     elif target_time is not None:
         target, ratio = "%.4f s" % target_time, target_time / took
     else:
@@ -426,8 +429,37 @@ def wirings(runs):
         row("a wiring of %d blocks to %s" % (wiring.count(b"-"), kind), took, 1, "", target_time=0.003)
     took, _ = times(["mutations"], alternating(3, 16), runs)
     row("mutations of a chirotope of rank 3 on 16 elements", took, 1, "", target_time=0.003)
-    took, _ = times(["make", "7"], b"", runs)
+    took, made = times(["make", "7"], b"", runs)
     row("sixteen points from a number, and their summary", took, 1, "", target_time=0.015)
+    ways_back(runs, made)
+
+
+def processor_times(commands, runs):
+    """The least processor time of some runs of each command, given by its words and its input, on one processor; one
+    of each in turn."""
+    def used():
+        ended = resource.getrusage(resource.RUSAGE_CHILDREN)
+        return ended.ru_utime + ended.ru_stime
+
+    best = [math.inf] * len(commands)
+    for _ in range(runs):
+        for place, (words, data) in enumerate(commands):
+            before = used()
+            subprocess.run([PROGRAM] + words, input=data, capture_output=True, preexec_fn=keep_to(1))
+            best[place] = min(best[place], used() - before)
+    return best
+
+
+def ways_back(runs, made):
+    """What `make` takes beside the list of the covectors. It converts this list back, and nothing that it prints can
+    tell whether it does. So its time has to: it takes at least half of such a conversion longer than the list."""
+    points = made[:made.index(b"end\n") + len(b"end\n")]
+    _, covectors = times(["convert", "covectors"], points, 1)
+    commands = ((["make", "7"], b""), (["convert", "covectors"], points), (["convert", "chirotope"], covectors),
+                (["accept"], covectors))
+    took, alone, back, scan = processor_times(commands, runs * 8)
+    row("the same beside the list of covectors, processor time", max(took - alone, 0), 1, "",
+        least_time_wanted=max(back - scan, 1e-5) / 2)
 
 
 def extensions(runs):

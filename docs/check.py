@@ -5,8 +5,8 @@ Looks up what the pages name: each link, each file, and each crate, call and def
 A name is looked up in the sources of the repository; a file from the top, from the folder of the page, or by its name
 alone. Then it asks for the size of README, for the form and the size of the entries of docs/DECISIONS.md, and whether
 what is made stands as it is made now: the crates and layers of docs/ARCHITECTURE.md (layers.py), its picture
-(picture.py), and docs/INDEX.md (index.py). The last line is 'pages: N passed, M failed', and the exit code is 1 if one
-failed.
+(picture.py), and docs/INDEX.md (index.py). Last it asks whether each function that no crate shows is called
+(uncalled.py). The last line is 'pages: N passed, M failed', and the exit code is 1 if one failed.
 """
 import os
 import re
@@ -16,6 +16,7 @@ import sys
 import index
 import layers
 import picture
+import uncalled
 
 TOP = os.path.dirname(os.path.dirname(os.path.abspath(__file__)))
 SOURCES = (".rt", ".antt", ".py", ".sh", ".txt", ".awk", ".bash", ".v", ".edit", ".1", "")
@@ -126,6 +127,11 @@ def main():
     failed += not picture.is_drawn()
     if not picture.is_drawn():
         print("docs/architecture.svg isn't what is drawn now: run docs/picture.py --write")
+    left = list(uncalled.uncalled())
+    passed += not left
+    failed += len(left)
+    for path, name in left:
+        print("%s: nothing calls `%s`" % (path, name))
     print("pages: %d passed, %d failed" % (passed, failed))
     return 1 if failed or not passed else 0
 
