@@ -46,7 +46,7 @@ def text_of(path):
 
 def items(text):
     """The documented items of a source: the type or trait that each belongs to, its name, and its documentation."""
-    owner, said = "", []
+    owner, is_trait, said = "", False, []
     for line in text.split("\n"):
         word = line.strip()
         block = re.match(r"(?:pub )?(impl|trait)\b(?:<[^{]*?>)?\s*(?:[\w:<>, ]* for )?(\w+)", line)
@@ -56,12 +56,12 @@ def items(text):
         if word.startswith("#["):
             continue
         item = ITEM.match(word)
-        if said and item and (word.startswith("pub ") or line.startswith("    fn ")):
+        if said and item and (word.startswith("pub ") or is_trait and line.startswith("    fn ")):
             is_inside = line.startswith("    ")
             if owner or not is_inside:
                 yield owner if is_inside else "", item.group(1), " ".join(said)
         if block:
-            owner = block.group(2)
+            owner, is_trait = block.group(2), block.group(1) == "trait"
         said = []
 
 
