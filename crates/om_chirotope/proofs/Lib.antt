@@ -24,3 +24,4 @@ pub mod BlockLaws
 pub mod FewValues
 pub mod PairCounts
 pub mod FoundPairs
+pub mod Placed

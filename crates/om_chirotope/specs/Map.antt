@@ -5,6 +5,7 @@ use Rattle.std.specs.Prelude.{ℕ, ◌≡◌, ◌<◌, ◌≤◌, ◌-◌, List,
 use Rattle.om_signs.specs.declared.sign.Sign.{Sign}
 use Rattle.om_signs.specs.declared.sign.Sign.TheVariants.{Minus, Zero, Plus}
 use Rattle.om_signs.specs.declared.raw_map.RawMap.{RawMap}
+use Rattle.om_signs.specs.declared.limits.TheConstants.{MAX_PLACES}
 use Rattle.om_signs.specs.Sign.{opposite}
 use Rattle.om_signs.specs.SignVec.{at}
 use Rattle.om_subsets.specs.Subsets.{rank_of, choose, all_subsets}
@@ -26,6 +27,13 @@ map_of raw = record { rank = raw.rank; elements = raw.elements; signs = raw.sign
 -- a sign for each increasing list of as many elements as the rank
 pub record IsMap (m : SignMap) : Type 0 where
   pub part : m.rank ≤ m.elements
+  pub whole : length m.signs ≡ choose m.elements m.rank
+
+-- a sign for each increasing list of as many elements as the rank, on 1 to MAX_PLACES elements
+pub record IsWholeMap (m : SignMap) : Type 0 where
+  pub low : 1 ≤ m.elements
+  pub high : m.elements ≤ MAX_PLACES
+  pub rank : m.rank ≤ m.elements
   pub whole : length m.signs ≡ choose m.elements m.rank
 
 -- the sign of an increasing list: the one at its place in lexicographic order

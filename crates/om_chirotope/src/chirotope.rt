@@ -1,9 +1,9 @@
-ghost use Rattle.std.specs.Prelude.{◌≡◌, ◌≤◌, ◌+◌, ◌⊎◌, ◌↔◌, length, IsTrue, IfOk, IfSome};
+ghost use Rattle.std.specs.Prelude.{◌≡◌, ◌≤◌, ◌+◌, ◌⊎◌, ◌↔◌, length, IsTrue, IfOk};
 ghost use Rattle.om_subsets.specs.Lists.{IsWithin};
 ghost use Rattle.om_chirotope.specs.Map.{map_of, chi_of, value_of, circuit_vector, cocircuit_vector, negated, IsLedBy};
 ghost use Rattle.om_chirotope.specs.Chirotope.{IsChirotope, IsWithinLimits};
 
-use super::vectors;
+use super::whole_map::WholeMap;
 use om_signs::{MAX_ELEMENTS, NoMemory, RawMap, Sign, SignVec};
 use om_subsets::Subset;
 use std::marker::Model;
@@ -71,7 +71,8 @@ impl Chirotope {
         ensures place { result ≡ chi_of self.now s.elements }
         ensures value { result ≡ value_of self.now s.elements }
     {
-        vectors::sign_at(&self.raw, s)
+        let map = WholeMap { raw: &self.raw };
+        map.sign_at(s)
     }
 
     /// The sign vector V of a set S of one element more than the rank. At the i-th element of S, counted from 1, it
@@ -82,7 +83,8 @@ impl Chirotope {
         requires size { length s.elements ≡ self.now.rank + 1 }
         ensures { result ≡ circuit_vector self.now s.elements }
     {
-        vectors::circuit_of(&self.raw, s)
+        let map = WholeMap { raw: &self.raw };
+        map.circuit_of(s)
     }
 
     /// The sign vector U of a set A of one element less than the rank. At each element e it is the value of the
@@ -92,7 +94,8 @@ impl Chirotope {
         requires size { length a.elements + 1 ≡ self.now.rank }
         ensures { result ≡ cocircuit_vector self.now a.elements }
     {
-        vectors::cocircuit_of(&self.raw, a)
+        let map = WholeMap { raw: &self.raw };
+        map.cocircuit_of(a)
     }
 
     /// The value of a tuple of as many elements as the rank. It is 0 if an element occurs twice, and else the sign
@@ -102,7 +105,8 @@ impl Chirotope {
         requires within { IsWithin 1 self.now.elements tuple.now }
         ensures { result ≡ value_of self.now tuple.now }
     {
-        vectors::value_at(&self.raw, tuple)
+        let map = WholeMap { raw: &self.raw };
+        map.value_at(tuple)
     }
 
     /// The negative: the chirotope with every sign negated.

@@ -4,10 +4,10 @@ ghost use Rattle.std.specs.Prelude.{ℕ, ◌≡◌, ◌+◌, ◌-◌, ◌<◌, �
 ghost use Rattle.std.proofs.Math.ListN.{get_or};
 ghost use Rattle.om_signs.specs.SignVec.{IsOrthogonal};
 ghost use Rattle.om_subsets.specs.Subsets.{choose, rank_of, IsSubsetFrom};
-ghost use Rattle.om_chirotope.specs.Map.{map_of, cocircuit_vector, cocircuit_vectors};
+ghost use Rattle.om_chirotope.specs.Map.{cocircuit_vector, cocircuit_vectors};
 
-use super::vectors::cocircuit_of;
-use om_signs::{MAX_ELEMENTS, MAX_PLACES, RawMap, SignVec};
+use super::whole_map::WholeMap;
+use om_signs::{MAX_ELEMENTS, SignVec};
 use om_subsets::Subset;
 
 /// The size of the table: 27,132, which is choose(19, 13). Consider all maps on at most 20 elements with at most
@@ -21,61 +21,50 @@ pub const FEW: usize = MAX_ELEMENTS as usize
     / 6;
 
 /// Fills the table with the vectors U of all sets of one element less than the rank, in lexicographic order.
-pub fn fill(raw: &RawMap, table: &mut [SignVec])
-    requires low { 1 ≤ raw.now.elements }
-    requires high { raw.now.elements ≤ MAX_PLACES }
-    requires rank_low { 1 ≤ raw.now.rank }
-    requires rank_high { raw.now.rank ≤ raw.now.elements }
-    requires whole { length raw.now.signs ≡ choose raw.now.elements raw.now.rank }
-    requires room { length table.old ≡ choose raw.now.elements (raw.now.rank - 1) }
-    ensures { table.new ≡ cocircuit_vectors (map_of raw.now) }
+pub fn fill(map: &WholeMap, table: &mut [SignVec])
+    requires rank_low { 1 ≤ map.now.rank }
+    requires room { length table.old ≡ choose map.now.elements (map.now.rank - 1) }
+    ensures { table.new ≡ cocircuit_vectors map.now }
 {
-    let mut a = Subset::first(raw.rank - 1, raw.elements);
-    for place in 0..Subset::choose(raw.elements, raw.rank - 1) {
-        table[place as usize] = cocircuit_of(raw, a);
+    let mut a = Subset::first(map.raw.rank - 1, map.raw.elements);
+    for place in 0..Subset::choose(map.raw.elements, map.raw.rank - 1) {
+        table[place as usize] = map.cocircuit_of(a);
         a = a.following();
     }
 }
 
 /// The vector U of a set of one element less than the rank. It is taken from a table of the first of these vectors,
 /// by the place of the set, or computed anew if the table ends before this place.
-pub fn cocircuit_at(raw: &RawMap, table: &[SignVec], a: Subset, place: u32) -> SignVec
-    requires low { 1 ≤ raw.now.elements }
-    requires high { raw.now.elements ≤ MAX_PLACES }
-    requires n { a.n ≡ raw.now.elements }
-    requires size { length a.elements + 1 ≡ raw.now.rank }
-    requires whole { length raw.now.signs ≡ choose raw.now.elements raw.now.rank }
-    requires filled { table.now ≡ take (length table.now) (cocircuit_vectors (map_of raw.now)) }
+pub fn cocircuit_at(map: &WholeMap, table: &[SignVec], a: Subset, place: u32) -> SignVec
+    requires n { a.n ≡ map.now.elements }
+    requires size { length a.elements + 1 ≡ map.now.rank }
+    requires filled { table.now ≡ take (length table.now) (cocircuit_vectors map.now) }
     requires list { IsSubsetFrom 1 a.n a.elements }
     requires place { place ≡ rank_of a.n a.elements }
-    ensures { result ≡ cocircuit_vector (map_of raw.now) a.elements }
+    ensures { result ≡ cocircuit_vector map.now a.elements }
 {
     if (place as usize) < table.len() {
         return table[place as usize];
     }
-    cocircuit_of(raw, a)
+    map.cocircuit_of(a)
 }
 
 /// Fills the table with the vectors U of all sets of one element less than the rank, in lexicographic order. It
 /// stops at the first that isn't orthogonal to a given vector. Returns the place of this one, or None if all are
 /// orthogonal.
-pub fn fill_while_orthogonal(raw: &RawMap, vector: SignVec, table: &mut [SignVec]) -> Option<u32>
-    requires low { 1 ≤ raw.now.elements }
-    requires high { raw.now.elements ≤ MAX_PLACES }
-    requires rank_low { 1 ≤ raw.now.rank }
-    requires rank_high { raw.now.rank ≤ raw.now.elements }
-    requires whole { length raw.now.signs ≡ choose raw.now.elements raw.now.rank }
-    requires room { length table.old ≡ choose raw.now.elements (raw.now.rank - 1) }
-    requires vector { length vector ≡ raw.now.elements }
-    ensures none { IfNone result (table.new ≡ cocircuit_vectors (map_of raw.now)) }
-    ensures within { IfSome result (λ k. k < choose raw.now.elements (raw.now.rank - 1)) }
-    ensures here { IfSome result (λ k. IsOrthogonal vector (get_or (cocircuit_vectors (map_of raw.now)) k []) → ⊥) }
+pub fn fill_while_orthogonal(map: &WholeMap, vector: SignVec, table: &mut [SignVec]) -> Option<u32>
+    requires rank_low { 1 ≤ map.now.rank }
+    requires room { length table.old ≡ choose map.now.elements (map.now.rank - 1) }
+    requires vector { length vector ≡ map.now.elements }
+    ensures none { IfNone result (table.new ≡ cocircuit_vectors map.now) }
+    ensures within { IfSome result (λ k. k < choose map.now.elements (map.now.rank - 1)) }
+    ensures here { IfSome result (λ k. IsOrthogonal vector (get_or (cocircuit_vectors map.now) k []) → ⊥) }
     ensures before { IfSome result
-        (λ k. (j : ℕ) → j < k → IsOrthogonal vector (get_or (cocircuit_vectors (map_of raw.now)) j [])) }
+        (λ k. (j : ℕ) → j < k → IsOrthogonal vector (get_or (cocircuit_vectors map.now) j [])) }
 {
-    let mut a = Subset::first(raw.rank - 1, raw.elements);
-    for place in 0..Subset::choose(raw.elements, raw.rank - 1) {
-        let other = cocircuit_of(raw, a);
+    let mut a = Subset::first(map.raw.rank - 1, map.raw.elements);
+    for place in 0..Subset::choose(map.raw.elements, map.raw.rank - 1) {
+        let other = map.cocircuit_of(a);
         if !vector.orthogonal(other) {
             return Some(place);
         }
@@ -87,23 +76,19 @@ pub fn fill_while_orthogonal(raw: &RawMap, vector: SignVec, table: &mut [SignVec
 
 /// The place of the first set of one element less than the rank, in lexicographic order, whose vector U isn't
 /// orthogonal to a given vector. None if all are orthogonal. It needs no table.
-pub fn first_not_orthogonal_to(raw: &RawMap, vector: SignVec) -> Option<u32>
-    requires low { 1 ≤ raw.now.elements }
-    requires high { raw.now.elements ≤ MAX_PLACES }
-    requires rank_low { 1 ≤ raw.now.rank }
-    requires rank_high { raw.now.rank ≤ raw.now.elements }
-    requires whole { length raw.now.signs ≡ choose raw.now.elements raw.now.rank }
-    requires vector { length vector ≡ raw.now.elements }
-    ensures none { IfNone result ((j : ℕ) → j < choose raw.now.elements (raw.now.rank - 1)
-        → IsOrthogonal vector (get_or (cocircuit_vectors (map_of raw.now)) j [])) }
-    ensures within { IfSome result (λ k. k < choose raw.now.elements (raw.now.rank - 1)) }
-    ensures here { IfSome result (λ k. IsOrthogonal vector (get_or (cocircuit_vectors (map_of raw.now)) k []) → ⊥) }
+pub fn first_not_orthogonal_to(map: &WholeMap, vector: SignVec) -> Option<u32>
+    requires rank_low { 1 ≤ map.now.rank }
+    requires vector { length vector ≡ map.now.elements }
+    ensures none { IfNone result ((j : ℕ) → j < choose map.now.elements (map.now.rank - 1)
+        → IsOrthogonal vector (get_or (cocircuit_vectors map.now) j [])) }
+    ensures within { IfSome result (λ k. k < choose map.now.elements (map.now.rank - 1)) }
+    ensures here { IfSome result (λ k. IsOrthogonal vector (get_or (cocircuit_vectors map.now) k []) → ⊥) }
     ensures before { IfSome result
-        (λ k. (j : ℕ) → j < k → IsOrthogonal vector (get_or (cocircuit_vectors (map_of raw.now)) j [])) }
+        (λ k. (j : ℕ) → j < k → IsOrthogonal vector (get_or (cocircuit_vectors map.now) j [])) }
 {
-    let mut a = Subset::first(raw.rank - 1, raw.elements);
-    for place in 0..Subset::choose(raw.elements, raw.rank - 1) {
-        if !vector.orthogonal(cocircuit_of(raw, a)) {
+    let mut a = Subset::first(map.raw.rank - 1, map.raw.elements);
+    for place in 0..Subset::choose(map.raw.elements, map.raw.rank - 1) {
+        if !vector.orthogonal(map.cocircuit_of(a)) {
             return Some(place);
         }
         a = a.following();

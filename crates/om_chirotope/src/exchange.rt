@@ -1,6 +1,6 @@
 //! Whether the bases of a map have exchange, found by marks of the sets that contain a basis.
 
-ghost use Rattle.std.specs.Prelude.{◌≡◌, ◌-◌, ◌*◌, ◌<◌, ◌≤◌, ◌^◌, ◌↔◌, length, IsTrue};
+ghost use Rattle.std.specs.Prelude.{◌≡◌, ◌-◌, ◌*◌, ◌≤◌, ◌^◌, ◌↔◌, length, IsTrue};
 ghost use Rattle.om_subsets.specs.Subsets.{choose};
 ghost use Rattle.om_chirotope.specs.declared.marking.TheConstants.{WORD_BITS};
 ghost use Rattle.om_chirotope.specs.Map.{map_of, cocircuit_vectors};
@@ -10,7 +10,7 @@ ghost use Rattle.om_chirotope.specs.Pictures.{AreMarkedAbove, IsMet};
 use super::marking::{
     FEW_ELEMENTS, FEW_WORDS, MOST_WORDS, WORDS, is_marked, mark_sets, number_of_words,
 };
-use super::vectors::cocircuit_of;
+use super::whole_map::WholeMap;
 use om_signs::{MAX_ELEMENTS, MAX_PLACES, RawMap, SignVec};
 use om_subsets::Subset;
 
@@ -32,68 +32,53 @@ pub fn has_exchange(raw: &RawMap) -> bool
     if raw.rank == 0 {
         return true;
     }
-    has_exchange_of_lists(raw)
+    let map = &WholeMap { raw };
+    has_exchange_of_lists(map)
 }
 
 /// Whether bases have exchange, in its form for lists, for a rank above 0.
-fn has_exchange_of_lists(raw: &RawMap) -> bool
-    requires low { 1 ≤ raw.now.elements }
-    requires high { raw.now.elements ≤ MAX_PLACES }
-    requires rank_low { 1 ≤ raw.now.rank }
-    requires rank_high { raw.now.rank ≤ raw.now.elements }
-    requires whole { length raw.now.signs ≡ choose raw.now.elements raw.now.rank }
-    ensures { IsTrue result ↔ HasListExchange (map_of raw.now) }
+fn has_exchange_of_lists(map: &WholeMap) -> bool
+    requires { 1 ≤ map.now.rank }
+    ensures { IsTrue result ↔ HasListExchange map.now }
 {
-    if raw.elements > FEW_ELEMENTS {
-        return has_exchange_with_room(raw);
+    if map.raw.elements > FEW_ELEMENTS {
+        return has_exchange_with_room(map);
     }
     let mut few = [0u64; FEW_WORDS];
-    has_exchange_by(raw, &mut few[..number_of_words(raw.elements)])
+    has_exchange_by(map, &mut few[..number_of_words(map.raw.elements)])
 }
 
 /// `has_exchange_of_lists`, with a table that has room for the marks of the sets of any number of elements. It is
 /// never inlined, so that small maps don't pay for this table.
 #[inline(never)]
-fn has_exchange_with_room(raw: &RawMap) -> bool
-    requires low { 1 ≤ raw.now.elements }
-    requires high { raw.now.elements ≤ MAX_PLACES }
-    requires rank_low { 1 ≤ raw.now.rank }
-    requires rank_high { raw.now.rank ≤ raw.now.elements }
-    requires whole { length raw.now.signs ≡ choose raw.now.elements raw.now.rank }
-    ensures { IsTrue result ↔ HasListExchange (map_of raw.now) }
+fn has_exchange_with_room(map: &WholeMap) -> bool
+    requires { 1 ≤ map.now.rank }
+    ensures { IsTrue result ↔ HasListExchange map.now }
 {
     let mut table = [0u64; MOST_WORDS];
-    has_exchange_by(raw, &mut table[..number_of_words(raw.elements)])
+    has_exchange_by(map, &mut table[..number_of_words(map.raw.elements)])
 }
 
 /// `has_exchange_of_lists`, with a given table for the marks of the sets.
-fn has_exchange_by(raw: &RawMap, marks: &mut [u64]) -> bool
-    requires low { 1 ≤ raw.now.elements }
-    requires high { raw.now.elements ≤ MAX_PLACES }
-    requires rank_low { 1 ≤ raw.now.rank }
-    requires rank_high { raw.now.rank ≤ raw.now.elements }
-    requires whole { length raw.now.signs ≡ choose raw.now.elements raw.now.rank }
-    requires room { 2 ^ raw.now.elements ≤ WORD_BITS * length marks.old }
-    ensures { IsTrue result ↔ HasListExchange (map_of raw.now) }
+fn has_exchange_by(map: &WholeMap, marks: &mut [u64]) -> bool
+    requires rank_low { 1 ≤ map.now.rank }
+    requires room { 2 ^ map.now.elements ≤ WORD_BITS * length marks.old }
+    ensures { IsTrue result ↔ HasListExchange map.now }
 {
-    mark_sets(raw, marks);
-    each_vector_is_met(raw, marks)
+    mark_sets(map, marks);
+    each_vector_is_met(map, marks)
 }
 
 /// Whether each basis has an element in the support of each nonzero vector U, found with marks of the sets that
 /// contain a basis. The vectors U are computed one after the other.
-fn each_vector_is_met(raw: &RawMap, marks: &[u64]) -> bool
-    requires low { 1 ≤ raw.now.elements }
-    requires high { raw.now.elements ≤ MAX_PLACES }
-    requires rank_low { 1 ≤ raw.now.rank }
-    requires rank_high { raw.now.rank ≤ raw.now.elements }
-    requires whole { length raw.now.signs ≡ choose raw.now.elements raw.now.rank }
-    requires marked { AreMarkedAbove (map_of raw.now) marks.now }
-    ensures { IsTrue result ↔ HasListExchange (map_of raw.now) }
+fn each_vector_is_met(map: &WholeMap, marks: &[u64]) -> bool
+    requires rank_low { 1 ≤ map.now.rank }
+    requires marked { AreMarkedAbove map.now marks.now }
+    ensures { IsTrue result ↔ HasListExchange map.now }
 {
-    let mut a = Subset::first(raw.rank - 1, raw.elements);
-    for _k in 0..Subset::choose(raw.elements, raw.rank - 1) {
-        if !is_met(raw, marks, cocircuit_of(raw, a)) {
+    let mut a = Subset::first(map.raw.rank - 1, map.raw.elements);
+    for _k in 0..Subset::choose(map.raw.elements, map.raw.rank - 1) {
+        if !is_met(map, marks, map.cocircuit_of(a)) {
             return false;
         }
         a = a.following();
@@ -103,63 +88,60 @@ fn each_vector_is_met(raw: &RawMap, marks: &[u64]) -> bool
 
 /// Whether bases have exchange, in its form for lists, found with a table of the vectors U, for at most
 /// [`MAX_ELEMENTS`] elements.
-pub fn has_list_exchange(raw: &RawMap, cocircuits: &[SignVec]) -> bool
-    requires low { 1 ≤ raw.now.elements }
-    requires high { raw.now.elements ≤ MAX_ELEMENTS }
-    requires rank_low { 1 ≤ raw.now.rank }
-    requires rank_high { raw.now.rank ≤ raw.now.elements }
-    requires whole { length raw.now.signs ≡ choose raw.now.elements raw.now.rank }
-    requires filled { cocircuits.now ≡ cocircuit_vectors (map_of raw.now) }
-    ensures { IsTrue result ↔ HasListExchange (map_of raw.now) }
+pub fn has_list_exchange(map: &WholeMap, cocircuits: &[SignVec]) -> bool
+    requires high { map.now.elements ≤ MAX_ELEMENTS }
+    requires rank_low { 1 ≤ map.now.rank }
+    requires filled { cocircuits.now ≡ cocircuit_vectors map.now }
+    ensures { IsTrue result ↔ HasListExchange map.now }
 {
-    if raw.elements > FEW_ELEMENTS {
-        return has_list_exchange_with_room(raw, cocircuits);
+    if map.raw.elements > FEW_ELEMENTS {
+        return has_list_exchange_with_room(map, cocircuits);
     }
     let mut few = [0u64; FEW_WORDS];
-    has_list_exchange_by(raw, cocircuits, &mut few[..number_of_words(raw.elements)])
+    has_list_exchange_by(
+        map,
+        cocircuits,
+        &mut few[..number_of_words(map.raw.elements)],
+    )
 }
 
 /// `has_list_exchange`, with a table that has room for the marks of the sets of [`MAX_ELEMENTS`] elements. It is
 /// never inlined either.
 #[inline(never)]
-fn has_list_exchange_with_room(raw: &RawMap, cocircuits: &[SignVec]) -> bool
-    requires low { 1 ≤ raw.now.elements }
-    requires high { raw.now.elements ≤ MAX_ELEMENTS }
-    requires rank_low { 1 ≤ raw.now.rank }
-    requires rank_high { raw.now.rank ≤ raw.now.elements }
-    requires whole { length raw.now.signs ≡ choose raw.now.elements raw.now.rank }
-    requires filled { cocircuits.now ≡ cocircuit_vectors (map_of raw.now) }
-    ensures { IsTrue result ↔ HasListExchange (map_of raw.now) }
+fn has_list_exchange_with_room(map: &WholeMap, cocircuits: &[SignVec]) -> bool
+    requires high { map.now.elements ≤ MAX_ELEMENTS }
+    requires rank_low { 1 ≤ map.now.rank }
+    requires filled { cocircuits.now ≡ cocircuit_vectors map.now }
+    ensures { IsTrue result ↔ HasListExchange map.now }
 {
     let mut table = [0u64; WORDS];
-    has_list_exchange_by(raw, cocircuits, &mut table[..number_of_words(raw.elements)])
+    has_list_exchange_by(
+        map,
+        cocircuits,
+        &mut table[..number_of_words(map.raw.elements)],
+    )
 }
 
 /// `has_list_exchange`, with a given table for the marks of the sets.
-fn has_list_exchange_by(raw: &RawMap, cocircuits: &[SignVec], marks: &mut [u64]) -> bool
-    requires low { 1 ≤ raw.now.elements }
-    requires high { raw.now.elements ≤ MAX_PLACES }
-    requires rank_low { 1 ≤ raw.now.rank }
-    requires rank_high { raw.now.rank ≤ raw.now.elements }
-    requires whole { length raw.now.signs ≡ choose raw.now.elements raw.now.rank }
-    requires filled { cocircuits.now ≡ cocircuit_vectors (map_of raw.now) }
-    requires room { 2 ^ raw.now.elements ≤ WORD_BITS * length marks.old }
-    ensures { IsTrue result ↔ HasListExchange (map_of raw.now) }
+fn has_list_exchange_by(map: &WholeMap, cocircuits: &[SignVec], marks: &mut [u64]) -> bool
+    requires rank_low { 1 ≤ map.now.rank }
+    requires filled { cocircuits.now ≡ cocircuit_vectors map.now }
+    requires room { 2 ^ map.now.elements ≤ WORD_BITS * length marks.old }
+    ensures { IsTrue result ↔ HasListExchange map.now }
 {
-    mark_sets(raw, marks);
-    each_basis_meets_each(raw, cocircuits, marks)
+    mark_sets(map, marks);
+    each_basis_meets_each(map, cocircuits, marks)
 }
 
 /// Whether each basis has an element in the support of each nonzero vector U of the table.
-fn each_basis_meets_each(raw: &RawMap, cocircuits: &[SignVec], marks: &[u64]) -> bool
-    requires high { raw.now.elements ≤ MAX_PLACES }
-    requires rank_low { 1 ≤ raw.now.rank }
-    requires filled { cocircuits.now ≡ cocircuit_vectors (map_of raw.now) }
-    requires marked { AreMarkedAbove (map_of raw.now) marks.now }
-    ensures { IsTrue result ↔ HasListExchange (map_of raw.now) }
+fn each_basis_meets_each(map: &WholeMap, cocircuits: &[SignVec], marks: &[u64]) -> bool
+    requires rank_low { 1 ≤ map.now.rank }
+    requires filled { cocircuits.now ≡ cocircuit_vectors map.now }
+    requires marked { AreMarkedAbove map.now marks.now }
+    ensures { IsTrue result ↔ HasListExchange map.now }
 {
     for u in cocircuits {
-        if !is_met(raw, marks, *u) {
+        if !is_met(map, marks, *u) {
             return false;
         }
     }
@@ -168,17 +150,16 @@ fn each_basis_meets_each(raw: &RawMap, cocircuits: &[SignVec], marks: &[u64]) ->
 
 /// Whether a vector is zero, or each basis has an element in its support. The latter holds exactly if the set of
 /// the elements off the support isn't marked.
-fn is_met(raw: &RawMap, marks: &[u64], u: SignVec) -> bool
-    requires high { raw.now.elements ≤ MAX_PLACES }
-    requires length { length u ≡ raw.now.elements }
-    requires marked { AreMarkedAbove (map_of raw.now) marks.now }
-    ensures { IsTrue result ↔ IsMet (map_of raw.now) u }
+fn is_met(map: &WholeMap, marks: &[u64], u: SignVec) -> bool
+    requires length { length u ≡ map.now.elements }
+    requires marked { AreMarkedAbove map.now marks.now }
+    ensures { IsTrue result ↔ IsMet map.now u }
 {
     let support = u.support();
     if support == 0 {
         return true;
     }
-    let all = (1u32 << raw.elements) - 1;
+    let all = (1u32 << map.raw.elements) - 1;
     if is_marked(marks, all & !support) {
         return false;
     }

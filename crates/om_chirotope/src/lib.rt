@@ -15,6 +15,7 @@ mod threads;
 mod three_terms;
 mod vectors;
 mod walking;
+mod whole_map;
 
 pub use bad_map::BadMap;
 pub use checking::check;
@@ -24,3 +25,4 @@ pub use laws::{axioms_and_relations, most_pairs, three_term_test, vectors_of_a_m
 pub use map_refused::MapRefused;
 pub use scan::violated;
 pub use three_terms::{are_balanced, has_three_term_relations};
+pub use whole_map::WholeMap;

@@ -2,14 +2,12 @@
 
 ghost use Rattle.std.specs.Prelude.{ℕ, ◌≡◌, ◌≢◌, ◌+◌, ◌*◌, ◌/◌, ◌<◌, ◌≤◌, ◌^◌, ◌↔◌, length, IsTrue};
 ghost use Rattle.std.proofs.Math.ListN.{get_or};
-ghost use Rattle.om_subsets.specs.Subsets.{choose};
 ghost use Rattle.om_chirotope.specs.declared.marking.TheConstants.{PLACE_BITS, WORD_BITS};
-ghost use Rattle.om_chirotope.specs.Map.{map_of};
 ghost use Rattle.om_chirotope.specs.Marks.{mark_at, IsMarked, IsSpread, IsWordSpread};
 ghost use Rattle.om_chirotope.specs.Pictures.{AreMarked, AreMarkedAbove};
 
-use super::vectors::sign_of;
-use om_signs::{MAX_ELEMENTS, MAX_PLACES, RawMap, Sign};
+use super::whole_map::WholeMap;
+use om_signs::{MAX_ELEMENTS, MAX_PLACES, Sign};
 use om_subsets::Subset;
 
 /// The number of bits of a word, each of which is the mark of a set.
@@ -52,16 +50,13 @@ pub fn number_of_words(elements: u8) -> usize
 }
 
 /// Marks exactly the sets that contain a basis, and removes all other marks.
-pub fn mark_sets(raw: &RawMap, words: &mut [u64])
-    requires high { raw.now.elements ≤ MAX_PLACES }
-    requires rank { raw.now.rank ≤ raw.now.elements }
-    requires whole { length raw.now.signs ≡ choose raw.now.elements raw.now.rank }
-    requires room { 2 ^ raw.now.elements ≤ WORD_BITS * length words.old }
-    ensures { AreMarkedAbove (map_of raw.now) words.new }
+pub fn mark_sets(map: &WholeMap, words: &mut [u64])
+    requires { 2 ^ map.now.elements ≤ WORD_BITS * length words.old }
+    ensures { AreMarkedAbove map.now words.new }
 {
     clear(words);
-    mark_bases(raw, words);
-    mark_above(raw, words);
+    mark_bases(map, words);
+    mark_above(map, words);
 }
 
 /// Whether the set of a mask is marked.
@@ -83,17 +78,14 @@ fn clear(words: &mut [u64])
 }
 
 /// Marks the sets that are bases.
-fn mark_bases(raw: &RawMap, words: &mut [u64])
-    requires high { raw.now.elements ≤ MAX_PLACES }
-    requires rank { raw.now.rank ≤ raw.now.elements }
-    requires whole { length raw.now.signs ≡ choose raw.now.elements raw.now.rank }
-    requires room { 2 ^ raw.now.elements ≤ WORD_BITS * length words.old }
+fn mark_bases(map: &WholeMap, words: &mut [u64])
+    requires room { 2 ^ map.now.elements ≤ WORD_BITS * length words.old }
     requires clear { (i : ℕ) → get_or words.old i 0 ≡ 0 }
-    ensures { AreMarked (map_of raw.now) words.new }
+    ensures { AreMarked map.now words.new }
 {
-    let mut b = Subset::first(raw.rank, raw.elements);
-    for k in 0..Subset::choose(raw.elements, raw.rank) {
-        if is_nonzero(sign_of(raw, b, k)) {
+    let mut b = Subset::first(map.raw.rank, map.raw.elements);
+    for k in 0..Subset::choose(map.raw.elements, map.raw.rank) {
+        if is_nonzero(map.sign_of(b, k)) {
             mark(words, b.mask());
         }
         b = b.following();
@@ -119,12 +111,11 @@ fn mark(words: &mut [u64], set: u32)
 
 /// Marks each set that contains a marked set. For each element, the set with it takes over the mark of the set
 /// without it, a whole word at a time.
-fn mark_above(raw: &RawMap, words: &mut [u64])
-    requires high { raw.now.elements ≤ MAX_PLACES }
-    requires bases { AreMarked (map_of raw.now) words.old }
-    ensures { AreMarkedAbove (map_of raw.now) words.new }
+fn mark_above(map: &WholeMap, words: &mut [u64])
+    requires { AreMarked map.now words.old }
+    ensures { AreMarkedAbove map.now words.new }
 {
-    for e in 0..raw.elements {
+    for e in 0..map.raw.elements {
         spread(words, e);
     }
 }

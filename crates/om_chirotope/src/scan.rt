@@ -13,7 +13,7 @@ use super::cocircuit_table::{FEW, ROOM, fill_while_orthogonal, first_not_orthogo
 use super::marking::WORDS;
 use super::threaded_scan::scan_on_threads;
 use super::three_terms::meets_test;
-use super::vectors::circuit_of;
+use super::whole_map::WholeMap;
 use om_signs::{MAX_ELEMENTS, MAX_PLACES, RawMap, SignVec};
 use om_subsets::{MOST_SUBSETS, Subset};
 use std::thread::Threads;
@@ -39,52 +39,47 @@ pub fn violated(raw: &RawMap) -> Option<(Subset, Subset)>
     if raw.rank == raw.elements {
         return None;
     }
+    let map = &WholeMap { raw };
     let count = Subset::choose(raw.elements, raw.rank - 1) as usize;
     if count > ROOM {
-        return scan_each(raw);
+        return scan_each(map);
     }
     if count > FEW {
-        return violated_with_room(raw);
+        return violated_with_room(map);
     }
     let mut few = [SignVec::zero(raw.elements); FEW];
     let cocircuits = &mut few[..count];
-    violated_by(raw, cocircuits)
+    violated_by(map, cocircuits)
 }
 
 /// `violated`, with a table that has room for the vectors U of each map of a document. It is never inlined, so that
 /// small maps don't pay for this table.
 #[inline(never)]
-fn violated_with_room(raw: &RawMap) -> Option<(Subset, Subset)>
-    requires low { 1 ≤ raw.now.elements }
-    requires high { raw.now.elements ≤ MAX_PLACES }
-    requires rank_low { 1 ≤ raw.now.rank }
-    requires rank_high { raw.now.rank < raw.now.elements }
-    requires whole { length raw.now.signs ≡ choose raw.now.elements raw.now.rank }
-    requires fits { choose raw.now.elements (raw.now.rank - 1) ≤ ROOM }
-    ensures none { IsNone result ↔ HasOrthogonalPairs (map_of raw.now) }
-    ensures first { IfSome result (λ p. IsFirstViolated (map_of raw.now) p.0 p.1) }
+fn violated_with_room(map: &WholeMap) -> Option<(Subset, Subset)>
+    requires rank_low { 1 ≤ map.now.rank }
+    requires rank_high { map.now.rank < map.now.elements }
+    requires fits { choose map.now.elements (map.now.rank - 1) ≤ ROOM }
+    ensures none { IsNone result ↔ HasOrthogonalPairs map.now }
+    ensures first { IfSome result (λ p. IsFirstViolated map.now p.0 p.1) }
 {
-    let mut table = [SignVec::zero(raw.elements); ROOM];
-    let cocircuits = &mut table[..Subset::choose(raw.elements, raw.rank - 1) as usize];
-    violated_by(raw, cocircuits)
+    let mut table = [SignVec::zero(map.raw.elements); ROOM];
+    let cocircuits = &mut table[..Subset::choose(map.raw.elements, map.raw.rank - 1) as usize];
+    violated_by(map, cocircuits)
 }
 
 /// `violated`, with a given table for the vectors U.
-fn violated_by(raw: &RawMap, cocircuits: &mut [SignVec]) -> Option<(Subset, Subset)>
-    requires low { 1 ≤ raw.now.elements }
-    requires high { raw.now.elements ≤ MAX_PLACES }
-    requires rank_low { 1 ≤ raw.now.rank }
-    requires rank_high { raw.now.rank < raw.now.elements }
-    requires whole { length raw.now.signs ≡ choose raw.now.elements raw.now.rank }
+fn violated_by(map: &WholeMap, cocircuits: &mut [SignVec]) -> Option<(Subset, Subset)>
+    requires rank_low { 1 ≤ map.now.rank }
+    requires rank_high { map.now.rank < map.now.elements }
     requires few { length cocircuits.old ≤ ROOM }
-    requires room { length cocircuits.old ≡ choose raw.now.elements (raw.now.rank - 1) }
-    ensures none { IsNone result ↔ HasOrthogonalPairs (map_of raw.now) }
-    ensures first { IfSome result (λ p. IsFirstViolated (map_of raw.now) p.0 p.1) }
+    requires room { length cocircuits.old ≡ choose map.now.elements (map.now.rank - 1) }
+    ensures none { IsNone result ↔ HasOrthogonalPairs map.now }
+    ensures first { IfSome result (λ p. IsFirstViolated map.now p.0 p.1) }
 {
-    match settle(raw, cocircuits) {
+    match settle(map, cocircuits) {
         Settled::Orthogonal => None,
         Settled::Violated { s, a } => Some((s, a)),
-        Settled::Open => scan(raw, cocircuits),
+        Settled::Open => scan(map, cocircuits),
     }
 }
 
@@ -103,16 +98,17 @@ pub fn violated_on_threads<R: Threads + Sync>(rt: &R, raw: &RawMap) -> Option<(S
     if raw.rank == raw.elements {
         return None;
     }
+    let map = &WholeMap { raw };
     let count = Subset::choose(raw.elements, raw.rank - 1) as usize;
     if count > ROOM {
-        return scan_each(raw);
+        return scan_each(map);
     }
     if count > FEW {
-        return violated_with_room_on_threads(rt, raw);
+        return violated_with_room_on_threads(rt, map);
     }
     let mut few = [SignVec::zero(raw.elements); FEW];
     let cocircuits = &mut few[..count];
-    violated_by_threads(rt, raw, cocircuits)
+    violated_by_threads(rt, map, cocircuits)
 }
 
 /// `violated_on_threads`, with a table that has room for the vectors U of each map of a document. It is never
@@ -120,42 +116,36 @@ pub fn violated_on_threads<R: Threads + Sync>(rt: &R, raw: &RawMap) -> Option<(S
 #[inline(never)]
 fn violated_with_room_on_threads<R: Threads + Sync>(
     rt: &R,
-    raw: &RawMap,
+    map: &WholeMap,
 ) -> Option<(Subset, Subset)>
-    requires low { 1 ≤ raw.now.elements }
-    requires high { raw.now.elements ≤ MAX_PLACES }
-    requires rank_low { 1 ≤ raw.now.rank }
-    requires rank_high { raw.now.rank < raw.now.elements }
-    requires whole { length raw.now.signs ≡ choose raw.now.elements raw.now.rank }
-    requires fits { choose raw.now.elements (raw.now.rank - 1) ≤ ROOM }
-    ensures none { IsNone result ↔ HasOrthogonalPairs (map_of raw.now) }
-    ensures first { IfSome result (λ p. IsFirstViolated (map_of raw.now) p.0 p.1) }
+    requires rank_low { 1 ≤ map.now.rank }
+    requires rank_high { map.now.rank < map.now.elements }
+    requires fits { choose map.now.elements (map.now.rank - 1) ≤ ROOM }
+    ensures none { IsNone result ↔ HasOrthogonalPairs map.now }
+    ensures first { IfSome result (λ p. IsFirstViolated map.now p.0 p.1) }
 {
-    let mut table = [SignVec::zero(raw.elements); ROOM];
-    let cocircuits = &mut table[..Subset::choose(raw.elements, raw.rank - 1) as usize];
-    violated_by_threads(rt, raw, cocircuits)
+    let mut table = [SignVec::zero(map.raw.elements); ROOM];
+    let cocircuits = &mut table[..Subset::choose(map.raw.elements, map.raw.rank - 1) as usize];
+    violated_by_threads(rt, map, cocircuits)
 }
 
 /// `violated_on_threads`, with a given table for the vectors U.
 fn violated_by_threads<R: Threads + Sync>(
     rt: &R,
-    raw: &RawMap,
+    map: &WholeMap,
     cocircuits: &mut [SignVec],
 ) -> Option<(Subset, Subset)>
-    requires low { 1 ≤ raw.now.elements }
-    requires high { raw.now.elements ≤ MAX_PLACES }
-    requires rank_low { 1 ≤ raw.now.rank }
-    requires rank_high { raw.now.rank < raw.now.elements }
-    requires whole { length raw.now.signs ≡ choose raw.now.elements raw.now.rank }
+    requires rank_low { 1 ≤ map.now.rank }
+    requires rank_high { map.now.rank < map.now.elements }
     requires few { length cocircuits.old ≤ ROOM }
-    requires room { length cocircuits.old ≡ choose raw.now.elements (raw.now.rank - 1) }
-    ensures none { IsNone result ↔ HasOrthogonalPairs (map_of raw.now) }
-    ensures first { IfSome result (λ p. IsFirstViolated (map_of raw.now) p.0 p.1) }
+    requires room { length cocircuits.old ≡ choose map.now.elements (map.now.rank - 1) }
+    ensures none { IsNone result ↔ HasOrthogonalPairs map.now }
+    ensures first { IfSome result (λ p. IsFirstViolated map.now p.0 p.1) }
 {
-    match settle(raw, cocircuits) {
+    match settle(map, cocircuits) {
         Settled::Orthogonal => None,
         Settled::Violated { s, a } => Some((s, a)),
-        Settled::Open => scan_on_threads(rt, raw, cocircuits),
+        Settled::Open => scan_on_threads(rt, map, cocircuits),
     }
 }
 
@@ -171,60 +161,53 @@ enum Settled {
 
 /// What the pairs of the first set S, and then the three-term test, show about a map. The call fills the table with
 /// the vectors U of all sets of one element less than the rank, unless the first set S has a violated pair.
-fn settle(raw: &RawMap, cocircuits: &mut [SignVec]) -> Settled
-    requires low { 1 ≤ raw.now.elements }
-    requires high { raw.now.elements ≤ MAX_PLACES }
-    requires rank_low { 1 ≤ raw.now.rank }
-    requires rank_high { raw.now.rank < raw.now.elements }
-    requires whole { length raw.now.signs ≡ choose raw.now.elements raw.now.rank }
-    requires room { length cocircuits.old ≡ choose raw.now.elements (raw.now.rank - 1) }
-    ensures { IsSettled (map_of raw.now) cocircuits.new result }
+fn settle(map: &WholeMap, cocircuits: &mut [SignVec]) -> Settled
+    requires rank_low { 1 ≤ map.now.rank }
+    requires rank_high { map.now.rank < map.now.elements }
+    requires room { length cocircuits.old ≡ choose map.now.elements (map.now.rank - 1) }
+    ensures { IsSettled map.now cocircuits.new result }
 {
-    let s = Subset::first(raw.rank + 1, raw.elements);
-    if let Some(k) = fill_while_orthogonal(raw, circuit_of(raw, s), cocircuits) {
-        let a = Subset::unrank(k, raw.rank - 1, raw.elements);
+    let s = Subset::first(map.raw.rank + 1, map.raw.elements);
+    if let Some(k) = fill_while_orthogonal(map, map.circuit_of(s), cocircuits) {
+        let a = Subset::unrank(k, map.raw.rank - 1, map.raw.elements);
         return Settled::Violated { s, a };
     }
-    if is_given_test(raw) && meets_test(raw, cocircuits) {
+    if is_given_test(map) && meets_test(map, cocircuits) {
         return Settled::Orthogonal;
     }
     Settled::Open
 }
 
-/// Whether a map is given the three-term test: it is on at most [`MAX_ELEMENTS`] elements, and there are more pairs of a
-/// set S and a set A than sets of elements, or than words for the marks of these sets.
-fn is_given_test(raw: &RawMap) -> bool
-    requires high { raw.now.elements ≤ MAX_PLACES }
-    requires rank_low { 1 ≤ raw.now.rank }
-    requires rank_high { raw.now.rank < raw.now.elements }
-    ensures { IsTrue result ↔ IsGivenTest (map_of raw.now) }
+/// Whether a map is given the three-term test: it is on at most [`MAX_ELEMENTS`] elements, and there are more pairs of
+/// a set S and a set A than sets of elements, or than words for the marks of these sets.
+fn is_given_test(map: &WholeMap) -> bool
+    requires rank_low { 1 ≤ map.now.rank }
+    requires rank_high { map.now.rank < map.now.elements }
+    ensures { IsTrue result ↔ IsGivenTest map.now }
 {
-    if raw.elements > MAX_ELEMENTS {
+    if map.raw.elements > MAX_ELEMENTS {
         return false;
     }
-    let sets = u64::from(Subset::choose(raw.elements, raw.rank + 1));
-    let cosets = u64::from(Subset::choose(raw.elements, raw.rank - 1));
-    sets * cosets > (1u64 << raw.elements).min(WORDS as u64)
+    let sets = u64::from(Subset::choose(map.raw.elements, map.raw.rank + 1));
+    let cosets = u64::from(Subset::choose(map.raw.elements, map.raw.rank - 1));
+    sets * cosets > (1u64 << map.raw.elements).min(WORDS as u64)
 }
 
 /// The first violated pair, found with the vectors U of all sets of one element less than the rank. A map that is given
 /// the three-term test is scanned only if it fails.
-fn scan(raw: &RawMap, cocircuits: &[SignVec]) -> Option<(Subset, Subset)>
-    requires low { 1 ≤ raw.now.elements }
-    requires high { raw.now.elements ≤ MAX_PLACES }
-    requires rank_low { 1 ≤ raw.now.rank }
-    requires rank_high { raw.now.rank < raw.now.elements }
-    requires whole { length raw.now.signs ≡ choose raw.now.elements raw.now.rank }
+fn scan(map: &WholeMap, cocircuits: &[SignVec]) -> Option<(Subset, Subset)>
+    requires rank_low { 1 ≤ map.now.rank }
+    requires rank_high { map.now.rank < map.now.elements }
     requires few { length cocircuits.now ≤ MOST_SUBSETS }
-    requires filled { cocircuits.now ≡ cocircuit_vectors (map_of raw.now) }
-    requires unsettled { IsUnsettled (map_of raw.now) }
-    ensures none { IsNone result ↔ HasOrthogonalPairs (map_of raw.now) }
-    ensures first { IfSome result (λ p. IsFirstViolated (map_of raw.now) p.0 p.1) }
+    requires filled { cocircuits.now ≡ cocircuit_vectors map.now }
+    requires unsettled { IsUnsettled map.now }
+    ensures none { IsNone result ↔ HasOrthogonalPairs map.now }
+    ensures first { IfSome result (λ p. IsFirstViolated map.now p.0 p.1) }
 {
-    let mut s = Subset::first(raw.rank + 1, raw.elements);
-    for _place in 0..Subset::choose(raw.elements, raw.rank + 1) {
-        if let Some(k) = first_not_orthogonal(circuit_of(raw, s), cocircuits, 0, cocircuits.len()) {
-            let a = Subset::unrank(k as u32, raw.rank - 1, raw.elements);
+    let mut s = Subset::first(map.raw.rank + 1, map.raw.elements);
+    for _place in 0..Subset::choose(map.raw.elements, map.raw.rank + 1) {
+        if let Some(k) = first_not_orthogonal(map.circuit_of(s), cocircuits, 0, cocircuits.len()) {
+            let a = Subset::unrank(k as u32, map.raw.rank - 1, map.raw.elements);
             return Some((s, a));
         }
         s = s.following();
@@ -234,20 +217,17 @@ fn scan(raw: &RawMap, cocircuits: &[SignVec]) -> Option<(Subset, Subset)>
 
 /// The first violated pair, found with vectors U that are computed anew for each set S. This is for maps whose
 /// vectors U have no room in the table; they have more values than a map of a document.
-fn scan_each(raw: &RawMap) -> Option<(Subset, Subset)>
-    requires low { 1 ≤ raw.now.elements }
-    requires high { raw.now.elements ≤ MAX_PLACES }
-    requires rank_low { 1 ≤ raw.now.rank }
-    requires rank_high { raw.now.rank < raw.now.elements }
-    requires whole { length raw.now.signs ≡ choose raw.now.elements raw.now.rank }
-    requires no_room { ROOM < choose raw.now.elements (raw.now.rank - 1) }
-    ensures none { IsNone result ↔ HasOrthogonalPairs (map_of raw.now) }
-    ensures first { IfSome result (λ p. IsFirstViolated (map_of raw.now) p.0 p.1) }
+fn scan_each(map: &WholeMap) -> Option<(Subset, Subset)>
+    requires rank_low { 1 ≤ map.now.rank }
+    requires rank_high { map.now.rank < map.now.elements }
+    requires no_room { ROOM < choose map.now.elements (map.now.rank - 1) }
+    ensures none { IsNone result ↔ HasOrthogonalPairs map.now }
+    ensures first { IfSome result (λ p. IsFirstViolated map.now p.0 p.1) }
 {
-    let mut s = Subset::first(raw.rank + 1, raw.elements);
-    for _place in 0..Subset::choose(raw.elements, raw.rank + 1) {
-        if let Some(k) = first_not_orthogonal_to(raw, circuit_of(raw, s)) {
-            let a = Subset::unrank(k, raw.rank - 1, raw.elements);
+    let mut s = Subset::first(map.raw.rank + 1, map.raw.elements);
+    for _place in 0..Subset::choose(map.raw.elements, map.raw.rank + 1) {
+        if let Some(k) = first_not_orthogonal_to(map, map.circuit_of(s)) {
+            let a = Subset::unrank(k, map.raw.rank - 1, map.raw.elements);
             return Some((s, a));
         }
         s = s.following();

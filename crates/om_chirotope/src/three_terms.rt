@@ -16,6 +16,7 @@ ghost use Rattle.om_chirotope.specs.Pictures.{AreLong, AreRowsBelow, HasRelation
 use super::cocircuit_table::{FEW, ROOM, cocircuit_at, fill};
 use super::exchange::has_list_exchange;
 use super::walking::places_with;
+use super::whole_map::WholeMap;
 use om_signs::{MAX_ELEMENTS, MAX_PLACES, RawMap, Sign, SignVec};
 use om_subsets::Subset;
 
@@ -24,16 +25,16 @@ const ROWS: usize = MAX_PLACES as usize;
 
 /// Whether every pair of sign vectors of the map is orthogonal, found by the three-term test: whether bases have
 /// exchange, and the three-term relations hold.
-pub fn meets_test(raw: &RawMap, cocircuits: &[SignVec]) -> bool
-    requires low { 1 ≤ raw.now.elements }
-    requires high { raw.now.elements ≤ MAX_ELEMENTS }
-    requires rank_low { 1 ≤ raw.now.rank }
-    requires rank_high { raw.now.rank < raw.now.elements }
-    requires whole { length raw.now.signs ≡ choose raw.now.elements raw.now.rank }
-    requires filled { cocircuits.now ≡ cocircuit_vectors (map_of raw.now) }
-    ensures { IsTrue result ↔ HasOrthogonalPairs (map_of raw.now) }
+pub fn meets_test(map: &WholeMap, cocircuits: &[SignVec]) -> bool
+    requires high { map.now.elements ≤ MAX_ELEMENTS }
+    requires rank_low { 1 ≤ map.now.rank }
+    requires rank_high { map.now.rank < map.now.elements }
+    requires filled { cocircuits.now ≡ cocircuit_vectors map.now }
+    ensures { IsTrue result ↔ HasOrthogonalPairs map.now }
 {
-    has_list_exchange(raw, cocircuits) && has_relations(raw, cocircuits)
+    // what holds of every whole map
+    let _raw = map.raw;
+    has_list_exchange(map, cocircuits) && has_relations(map, cocircuits)
 }
 
 /// Whether the three-term relations of a map hold. Let P be an increasing list of two elements less than the rank,
@@ -55,64 +56,54 @@ pub fn has_three_term_relations(raw: &RawMap) -> bool
     if raw.rank == 0 {
         return true;
     }
+    let map = &WholeMap { raw };
     let count = Subset::choose(raw.elements, raw.rank - 1) as usize;
     if count > ROOM {
-        return has_relations(raw, &[]);
+        return has_relations(map, &[]);
     }
     if count > FEW {
-        return has_relations_with_room(raw);
+        return has_relations_with_room(map);
     }
     let mut few = [SignVec::zero(raw.elements); FEW];
     let cocircuits = &mut few[..count];
-    has_relations_by(raw, cocircuits)
+    has_relations_by(map, cocircuits)
 }
 
 /// `has_three_term_relations`, with a table that has room for the vectors U of each map of a document. It is never
 /// inlined, so that small maps don't pay for this table.
 #[inline(never)]
-fn has_relations_with_room(raw: &RawMap) -> bool
-    requires low { 1 ≤ raw.now.elements }
-    requires high { raw.now.elements ≤ MAX_PLACES }
-    requires rank_low { 1 ≤ raw.now.rank }
-    requires rank_high { raw.now.rank ≤ raw.now.elements }
-    requires whole { length raw.now.signs ≡ choose raw.now.elements raw.now.rank }
-    requires fits { choose raw.now.elements (raw.now.rank - 1) ≤ ROOM }
-    ensures { IsTrue result ↔ HasThreeTermRelations (map_of raw.now) }
+fn has_relations_with_room(map: &WholeMap) -> bool
+    requires rank_low { 1 ≤ map.now.rank }
+    requires fits { choose map.now.elements (map.now.rank - 1) ≤ ROOM }
+    ensures { IsTrue result ↔ HasThreeTermRelations map.now }
 {
-    let mut table = [SignVec::zero(raw.elements); ROOM];
-    let cocircuits = &mut table[..Subset::choose(raw.elements, raw.rank - 1) as usize];
-    has_relations_by(raw, cocircuits)
+    let mut table = [SignVec::zero(map.raw.elements); ROOM];
+    let cocircuits = &mut table[..Subset::choose(map.raw.elements, map.raw.rank - 1) as usize];
+    has_relations_by(map, cocircuits)
 }
 
 /// `has_three_term_relations`, with a given table for the vectors U.
-fn has_relations_by(raw: &RawMap, cocircuits: &mut [SignVec]) -> bool
-    requires low { 1 ≤ raw.now.elements }
-    requires high { raw.now.elements ≤ MAX_PLACES }
-    requires rank_low { 1 ≤ raw.now.rank }
-    requires rank_high { raw.now.rank ≤ raw.now.elements }
-    requires whole { length raw.now.signs ≡ choose raw.now.elements raw.now.rank }
-    requires room { length cocircuits.old ≡ choose raw.now.elements (raw.now.rank - 1) }
-    ensures { IsTrue result ↔ HasThreeTermRelations (map_of raw.now) }
+fn has_relations_by(map: &WholeMap, cocircuits: &mut [SignVec]) -> bool
+    requires rank_low { 1 ≤ map.now.rank }
+    requires room { length cocircuits.old ≡ choose map.now.elements (map.now.rank - 1) }
+    ensures { IsTrue result ↔ HasThreeTermRelations map.now }
 {
-    fill(raw, cocircuits);
-    has_relations(raw, cocircuits)
+    fill(map, cocircuits);
+    has_relations(map, cocircuits)
 }
 
 /// `has_three_term_relations`, with a table of the first vectors U; those beyond its end are computed anew.
-fn has_relations(raw: &RawMap, cocircuits: &[SignVec]) -> bool
-    requires low { 1 ≤ raw.now.elements }
-    requires high { raw.now.elements ≤ MAX_PLACES }
-    requires rank { raw.now.rank ≤ raw.now.elements }
-    requires whole { length raw.now.signs ≡ choose raw.now.elements raw.now.rank }
-    requires filled { cocircuits.now ≡ take (length cocircuits.now) (cocircuit_vectors (map_of raw.now)) }
-    ensures { IsTrue result ↔ HasThreeTermRelations (map_of raw.now) }
+fn has_relations<'a>(map: &'a WholeMap<'a>, cocircuits: &'a [SignVec]) -> bool
+    requires { cocircuits.now ≡ take (length cocircuits.now) (cocircuit_vectors map.now) }
+    ensures { IsTrue result ↔ HasThreeTermRelations map.now }
 {
-    if raw.rank < 2 {
+    if map.raw.rank < 2 {
         return true;
     }
-    let mut p = Subset::first(raw.rank - 2, raw.elements);
-    for _k in 0..Subset::choose(raw.elements, raw.rank - 2) {
-        if !has_relations_at(raw, cocircuits, p) {
+    let mut p = Subset::first(map.raw.rank - 2, map.raw.elements);
+    for _k in 0..Subset::choose(map.raw.elements, map.raw.rank - 2) {
+        let picture = Picture { map, cocircuits, p };
+        if !picture.has_relations() {
             return false;
         }
         p = p.following();
@@ -120,70 +111,67 @@ fn has_relations(raw: &RawMap, cocircuits: &[SignVec]) -> bool
     true
 }
 
-/// Whether the three-term relations of a list P hold, found by the rows of its picture. The row of x has at each y
-/// the value of P followed by x and y. If the relations of the first nonzero row with any two later ones hold, all
-/// do.
-fn has_relations_at(raw: &RawMap, cocircuits: &[SignVec], p: Subset) -> bool
-    requires low { 1 ≤ raw.now.elements }
-    requires high { raw.now.elements ≤ MAX_PLACES }
-    requires rank { length p.elements + 2 ≡ raw.now.rank }
-    requires rank_high { raw.now.rank ≤ raw.now.elements }
-    requires whole { length raw.now.signs ≡ choose raw.now.elements raw.now.rank }
-    requires n { p.n ≡ raw.now.elements }
-    requires list { IsSubsetFrom 1 raw.now.elements p.elements }
-    requires filled { cocircuits.now ≡ take (length cocircuits.now) (cocircuit_vectors (map_of raw.now)) }
-    ensures { IsTrue result ↔ HasRelationsAt (map_of raw.now) p.elements }
-{
-    let mut rows = [SignVec::zero(raw.elements); ROWS];
-    fill_rows(raw, cocircuits, p, &mut rows);
-    let live = live_rows(&rows, raw.elements);
-    if live == 0 {
-        return true;
-    }
-    let first = live.trailing_zeros();
-    are_balanced_from(&rows, raw.elements, first, live & !(1u32 << first))
+/// The picture of a list P of two elements less than the rank, with a table of the first vectors U of the map. Its row
+/// of x has at each y the value of P followed by x and y.
+#[derive(Drop)]
+struct Picture<'a> {
+    map: &'a WholeMap<'a>,
+    cocircuits: &'a [SignVec],
+    p: Subset,
+    ghost rank: { length p.elements + 2 ≡ map.now.rank },
+    ghost n: { p.n ≡ map.now.elements },
+    ghost filled: { cocircuits.now ≡ take (length cocircuits.now) (cocircuit_vectors map.now) },
 }
 
-/// Writes the row of each element.
-fn fill_rows(raw: &RawMap, cocircuits: &[SignVec], p: Subset, rows: &mut [SignVec; ROWS])
-    requires low { 1 ≤ raw.now.elements }
-    requires high { raw.now.elements ≤ MAX_PLACES }
-    requires rank { length p.elements + 2 ≡ raw.now.rank }
-    requires rank_high { raw.now.rank ≤ raw.now.elements }
-    requires whole { length raw.now.signs ≡ choose raw.now.elements raw.now.rank }
-    requires n { p.n ≡ raw.now.elements }
-    requires filled { cocircuits.now ≡ take (length cocircuits.now) (cocircuit_vectors (map_of raw.now)) }
-    requires list { IsSubsetFrom 1 raw.now.elements p.elements }
-    requires room { MAX_PLACES ≤ length rows.old }
-    requires zero { (i : ℕ) → i < length rows.old → get_or rows.old i [] ≡ replicate raw.now.elements Sign.Zero }
-    ensures { AreRowsBelow (map_of raw.now) p.elements rows.new (raw.now.elements + 1) }
-{
-    let places = places_with(p);
-    for x in 1..raw.elements + 1 {
-        if !p.has(x) {
-            rows[x as usize - 1] = row_of(raw, cocircuits, p, x, places[x as usize - 1]);
+impl Picture<'_> {
+    /// Whether the three-term relations of P hold. If the relations of the first nonzero row with any two later ones
+    /// hold, all do.
+    fn has_relations(&self) -> bool
+        ensures { IsTrue result ↔ HasRelationsAt self.now.map.now self.now.p.elements }
+    {
+        let map = self.map;
+        let mut rows = [SignVec::zero(map.raw.elements); ROWS];
+        self.fill(&mut rows);
+        let live = live_rows(&rows, map.raw.elements);
+        if live == 0 {
+            return true;
+        }
+        let first = live.trailing_zeros();
+        are_balanced_from(&rows, map.raw.elements, first, live & !(1u32 << first))
+    }
+
+    /// Writes the row of each element off P.
+    fn fill(&self, rows: &mut [SignVec; ROWS])
+        requires room { MAX_PLACES ≤ length rows.old }
+        requires zero { (i : ℕ) → i < length rows.old
+            → get_or rows.old i [] ≡ replicate self.now.map.now.elements Sign.Zero }
+        ensures { AreRowsBelow self.now.map.now self.now.p.elements rows.new (self.now.map.now.elements + 1) }
+    {
+        let map = self.map;
+        let places = places_with(self.p);
+        for x in 1..map.raw.elements + 1 {
+            if !self.p.has(x) {
+                rows[x as usize - 1] = self.row_of(x, places[x as usize - 1]);
+            }
         }
     }
-}
 
-/// The row of an element x off P, found by the place of the set of P and x.
-fn row_of(raw: &RawMap, cocircuits: &[SignVec], p: Subset, x: u8, place: u32) -> SignVec
-    requires low { 1 ≤ raw.now.elements }
-    requires high { raw.now.elements ≤ MAX_PLACES }
-    requires rank { length p.elements + 2 ≡ raw.now.rank }
-    requires rank_high { raw.now.rank ≤ raw.now.elements }
-    requires whole { length raw.now.signs ≡ choose raw.now.elements raw.now.rank }
-    requires n { p.n ≡ raw.now.elements }
-    requires list { IsSubsetFrom 1 raw.now.elements p.elements }
-    requires filled { cocircuits.now ≡ take (length cocircuits.now) (cocircuit_vectors (map_of raw.now)) }
-    requires x_low { 1 ≤ x }
-    requires x_high { x ≤ raw.now.elements }
-    requires off { IsMember x p.elements → ⊥ }
-    requires place { place ≡ rank_of p.n (with_element x p.elements) }
-    ensures { result ≡ cocircuit_vector (map_of raw.now) (p.elements ++ x ∷ []) }
-{
-    let vector = cocircuit_at(raw, cocircuits, p.with(x), place);
-    if p.odd_after(x) { vector.neg() } else { vector }
+    /// The row of an element x off P, found by the place of the set of P and x.
+    fn row_of(&self, x: u8, place: u32) -> SignVec
+        requires low { 1 ≤ x }
+        requires high { x ≤ self.now.map.now.elements }
+        requires off { IsMember x self.now.p.elements → ⊥ }
+        requires list { IsSubsetFrom 1 self.now.map.now.elements self.now.p.elements }
+        requires place { place ≡ rank_of self.now.p.n (with_element x self.now.p.elements) }
+        ensures { result ≡ cocircuit_vector self.now.map.now (self.now.p.elements ++ x ∷ []) }
+    {
+        let vector = cocircuit_at(self.map, self.cocircuits, self.p.with(x), place);
+        if self.p.odd_after(x) {
+            vector.neg()
+        } else {
+            vector
+        }
+    }
 }
 
 /// The mask of the rows that aren't zero.

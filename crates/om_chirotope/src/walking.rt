@@ -1,8 +1,8 @@
 //! The places of the sets that have one element more than a given set.
 
-ghost use Rattle.std.specs.Prelude.{ℕ, ◌≡◌, ◌+◌, ◌-◌, ◌<◌, ◌≤◌, length};
+ghost use Rattle.std.specs.Prelude.{ℕ, ◌≡◌, ◌+◌, ◌-◌, ◌≤◌};
 ghost use Rattle.std.proofs.Math.ListN.{get_or};
-ghost use Rattle.om_subsets.specs.Subsets.{choose, rank_of, IsMember, IsSubsetFrom, with_element};
+ghost use Rattle.om_subsets.specs.Subsets.{rank_of, IsMember, IsSubsetFrom, with_element};
 
 use om_signs::MAX_PLACES;
 use om_subsets::Subset;

@@ -1,15 +1,15 @@
 use Rattle.std.proofs.Common.{arith, ap, ◌∙◌, ◌≡◌, ◌-◌, ◌<◌}
 use Rattle.std.proofs.lemmas.List.{length-set}
 use Rattle.om_subsets.specs.Subsets.{choose, subset_at}
-use Rattle.om_chirotope.specs.Map.{map_of, cocircuit_vector}
+use Rattle.om_chirotope.specs.Map.{cocircuit_vector}
 use Rattle.om_chirotope.proofs.Tables.{table_done, table_more}
 use Rattle.om_subsets.proofs.Walks.{at_next, list_at}
 use Rattle.om_chirotope.proofs.cocircuit_table.fill.Goals as goal
 
 pub loop-place-preserved : goal.loop-place-preserved
 loop-place-preserved c =
-    let m = map_of c.args.raw.now in
-    let end = c.choose-place-end.ensures.value in
+    let m = c.args.map.now in
+    let end = c.choose-place-end.ensures.value ∙ ap (λ m. choose m.elements (m.rank - 1)) c.map.view_is in
     let test = c.loop-place-test.true in
     let room = c.requires.room in
     let size = c.loop-place.invariant.size in
@@ -31,7 +31,7 @@ pub returns : goal.returns
 returns c =
     let size = c.loop-place.invariant.size in
     let room = c.requires.room in
-    let end = c.choose-place-end.ensures.value in
+    let end = c.choose-place-end.ensures.value ∙ ap (λ m. choose m.elements (m.rank - 1)) c.map.view_is in
     let over = c.loop-place-test.false in
-    table_done (map_of c.args.raw.now) c.loop-place.table (omega (arith, size, room))
+    table_done c.args.map.now c.loop-place.table (omega (arith, size, room))
     (λ j l. c.loop-place.invariant.filled j (omega (arith, l, end, over)))

@@ -1,7 +1,7 @@
 use Rattle.std.proofs.Common.{ℕ, ◌≡◌, ◌-◌, ◌<◌, [], length}
 use Rattle.std.proofs.Math.ListN.{get_or}
 use Rattle.om_signs.specs.SignVec.{IsOrthogonal}
-use Rattle.om_chirotope.specs.Map.{map_of, cocircuit_vectors}
+use Rattle.om_chirotope.specs.Map.{cocircuit_vectors}
 use Rattle.om_subsets.proofs.Walks.{IsAt}
 use Rattle.om_chirotope.proofs.Tables.{IsFilledBelow}
 use Rattle.om_chirotope.proofs.cocircuit_table.fill_while_orthogonal.Given as goal
@@ -9,7 +9,7 @@ use Rattle.om_chirotope.proofs.cocircuit_table.fill_while_orthogonal.Given as go
 abbrev pub invariant-loop-place : goal.invariant-loop-place
 invariant-loop-place l = record {
   size : length l.table ≡ length l.fn.table;
-  filled : IsFilledBelow (map_of l.raw) l.table l.place;
-  held : (j : ℕ) → j < l.place → IsOrthogonal l.vector (get_or (cocircuit_vectors (map_of l.raw)) j []);
-  at : IsAt l.raw.elements (l.raw.rank - 1) l.place l.a;
+  filled : IsFilledBelow l.map l.table l.place;
+  held : (j : ℕ) → j < l.place → IsOrthogonal l.vector (get_or (cocircuit_vectors l.map) j []);
+  at : IsAt l.map.elements (l.map.rank - 1) l.place l.a;
 }

@@ -4,7 +4,7 @@ use Rattle.om_signs.specs.SignVec.{IsOrthogonal}
 use Rattle.om_subsets.specs.Subsets.{choose, subset_at}
 use Rattle.om_laws.specs.Relations.{along}
 use Rattle.om_laws.proofs.BridgeLaws.{length-as_list}
-use Rattle.om_chirotope.specs.Map.{map_of, cocircuit_vector, value_of}
+use Rattle.om_chirotope.specs.Map.{cocircuit_vector, value_of}
 use Rattle.om_chirotope.proofs.Tables.{table_at}
 use Rattle.om_subsets.proofs.Walks.{at_next, list_at}
 use Rattle.om_chirotope.proofs.cocircuit_table.first_not_orthogonal_to.Goals as goal
@@ -12,12 +12,12 @@ use Rattle.om_chirotope.proofs.cocircuit_table.first_not_orthogonal_to.Goals as 
 pub orthogonal-requires : goal.orthogonal-requires
 orthogonal-requires c = c.requires.vector
     ∙ sym (ap length c.cocircuit_of.ensures
-    ∙ length-as_list c.args.raw.now.elements (along (value_of (map_of c.args.raw.now)) c.loop-place.a.elements))
+    ∙ length-as_list c.args.map.now.elements (along (value_of c.args.map.now) c.loop-place.a.elements))
 
 pub returns-then-not-orthogonal-clause-here : goal.returns-then-not-orthogonal-clause-here
 returns-then-not-orthogonal-clause-here c = λ o.
-    let m = map_of c.args.raw.now in
-    let end = c.choose-place-end.ensures.value in
+    let m = c.args.map.now in
+    let end = c.choose-place-end.ensures.value ∙ ap (λ m. choose m.elements (m.rank - 1)) c.map.view_is in
     let test = c.loop-place-test.true in
     let l : c.loop-place.place < choose m.elements (m.rank - 1) = omega (arith, end, test) in
     let e : c.cocircuit_of.result ≡ cocircuit_vector m (subset_at m.elements (m.rank - 1) c.loop-place.place) =
@@ -29,8 +29,8 @@ returns-then-not-orthogonal-clause-here c = λ o.
 
 pub loop-place-preserved : goal.loop-place-preserved
 loop-place-preserved c =
-    let m = map_of c.args.raw.now in
-    let end = c.choose-place-end.ensures.value in
+    let m = c.args.map.now in
+    let end = c.choose-place-end.ensures.value ∙ ap (λ m. choose m.elements (m.rank - 1)) c.map.view_is in
     let test = c.loop-place-test.true in
     let l : c.loop-place.place < choose m.elements (m.rank - 1) = omega (arith, end, test) in
     let e : c.cocircuit_of.result ≡ cocircuit_vector m (subset_at m.elements (m.rank - 1) c.loop-place.place) =
@@ -48,6 +48,6 @@ loop-place-preserved c =
 
 pub returns-clause-none : goal.returns-clause-none
 returns-clause-none c = λ j l.
-    let end = c.choose-place-end.ensures.value in
+    let end = c.choose-place-end.ensures.value ∙ ap (λ m. choose m.elements (m.rank - 1)) c.map.view_is in
     let over = c.loop-place-test.false in
     c.loop-place.invariant.held j (omega (arith, l, end, over))

@@ -3,7 +3,7 @@ use Rattle.std.proofs.lemmas.Bool.{cases_eq, false≢true}
 use Rattle.std.proofs.lemmas.List.{get_or_default}
 use Rattle.om_subsets.specs.Subsets.{choose, subset_at}
 use Rattle.om_subsets.proofs.Order.{listed}
-use Rattle.om_chirotope.specs.Map.{map_of, cocircuit_vector}
+use Rattle.om_chirotope.specs.Map.{cocircuit_vector}
 use Rattle.om_chirotope.specs.Pictures.{IsMet}
 use Rattle.om_chirotope.proofs.SupportMarks.{exchange_of_met, met_of_exchange, table_length}
 use Rattle.om_chirotope.proofs.Tables.{length-table, table_at}
@@ -13,13 +13,13 @@ pub is_met-requires-clause-length : goal.is_met-requires-clause-length
 is_met-requires-clause-length c =
     let e : c.u-item.result ≡ get_or c.args.cocircuits.now c.loop-u.u-index [] = c.u-item.is
     ∙ get_or_default c.args.cocircuits.now c.loop-u.u-index _ [] c.loop-u-test.true in
-    ap length e ∙ table_length (map_of c.args.raw.now) c.args.cocircuits.now c.loop-u.u-index c.requires.filled
+    ap length e ∙ table_length c.args.map.now c.args.cocircuits.now c.loop-u.u-index c.requires.filled
     c.loop-u-test.true
 
 pub loop-u-preserved : goal.loop-u-preserved
 loop-u-preserved c = λ k l. elim (cases_eq k c.loop-u.u-index) [
   | inl q ↦
-      let m = map_of c.args.raw.now in
+      let m = c.args.map.now in
       let e : c.u-item.result ≡ get_or c.args.cocircuits.now c.loop-u.u-index [] = c.u-item.is
       ∙ get_or_default c.args.cocircuits.now c.loop-u.u-index _ [] c.loop-u-test.true in
       subst (λ j. IsMet m (get_or c.args.cocircuits.now j [])) (sym q)
@@ -31,7 +31,7 @@ pub returns-then-not-is_met : goal.returns-then-not-is_met
 returns-then-not-is_met c = (
   λ t. absurd (false≢true t),
   λ ex.
-      let m = map_of c.args.raw.now in
+      let m = c.args.map.now in
       let k = c.loop-u.u-index in
       let size = ap length c.requires.filled ∙ length-table m in
       let test = c.loop-u-test.true in
@@ -50,7 +50,7 @@ returns-then-not-is_met c = (
 
 pub returns : goal.returns
 returns c = (
-  λ t. exchange_of_met (map_of c.args.raw.now) c.args.cocircuits.now c.loop-u.u-index c.requires.filled
+  λ t. exchange_of_met c.args.map.now c.args.cocircuits.now c.loop-u.u-index c.requires.filled
       c.loop-u-test.false c.loop-u.invariant,
   λ ex. refl,
 )

@@ -11,8 +11,9 @@ returns c = c.has_exchange_by.ensures
 
 pub has_exchange_by-requires-clause-room : goal.has_exchange_by-requires-clause-room
 has_exchange_by-requires-clause-room c =
-    taken_room (2 ^ c.args.raw.now.elements) 64 c.number_of_words.result _ c.number_of_words.ensures.room
-    c.number_of_words.ensures.most
+    rw (← c.map.view_is)
+    (taken_room (2 ^ c.map.inside.raw.now.elements) 64 c.number_of_words.result _ c.number_of_words.ensures.room
+    c.number_of_words.ensures.most)
 
 pub slice_bounds-table-end : goal.slice_bounds-table-end
 slice_bounds-table-end c = c.number_of_words.ensures.most

@@ -1,8 +1,8 @@
 use Rattle.std.proofs.Common.{refl, subst, ◌≤◌}
 use Rattle.om_chirotope.specs.declared.cocircuit_table.TheConstants.{ROOM}
 use Rattle.om_chirotope.specs.Map.{map_of}
-use Rattle.om_chirotope.proofs.Tables.{no_pairs_above, no_pairs_of_rank_zero, some_rank, rank_below}
-use Rattle.om_chirotope.proofs.Tables.{taken_size, taken_within}
+use Rattle.om_chirotope.proofs.Tables.{no_pairs_above, no_pairs_of_rank_zero, some_rank, rank_below, taken_size}
+use Rattle.om_chirotope.proofs.Tables.{taken_within}
 use Rattle.om_chirotope.proofs.scan.violated_on_threads.Goals as goal
 
 pub returns-then-raw-clause-none : goal.returns-then-raw-clause-none
@@ -34,31 +34,13 @@ violated_with_room_on_threads-requires g c =
     let low = some_rank c.args.raw.now.rank c.if-raw-eq0.false in
     let high = rank_below c.args.raw.now.rank c.args.raw.now.elements c.requires.rank c.if-raw.false in
     let fits = subst (λ n. n ≤ ROOM) c.choose-count.ensures.value c.if-count-gt-ROOM.false in
-    (c.type_bounds.sync-R, (c.requires.low, (c.requires.high, (low, (high, (c.requires.whole, fits))))))
+    (c.type_bounds.sync-R, (low, (high, fits)))
 
 pub violated_by_threads-requires : goal.violated_by_threads-requires
 violated_by_threads-requires g c =
     let low = some_rank c.args.raw.now.rank c.if-raw-eq0.false in
     let high = rank_below c.args.raw.now.rank c.args.raw.now.elements c.requires.rank c.if-raw.false in
-    let count = c.choose-count.result in (
-      c.type_bounds.sync-R,
-      (
-        c.requires.low,
-        (
-          c.requires.high,
-          (
-            low,
-            (
-              high,
-              (
-                c.requires.whole,
-                (
-                  taken_within count _ _ c.if-count-gt-ROOM.false c.if-count-gt-FEW.false,
-                  taken_size count _ _ c.choose-count.ensures.value c.if-count-gt-FEW.false,
-                ),
-              ),
-            ),
-          ),
-        ),
-      ),
-    )
+    let count = c.choose-count.result in
+    let few = taken_within count _ _ c.if-count-gt-ROOM.false c.if-count-gt-FEW.false in
+    let room = taken_size count _ _ c.choose-count.ensures.value c.if-count-gt-FEW.false in
+    (c.type_bounds.sync-R, (low, (high, (few, room))))

@@ -1,6 +1,6 @@
+use Rattle.om_subsets.specs.Subsets.{choose}
 use Rattle.std.proofs.Common.{refl, sym, subst, ap, ◌≤◌, ◌∙◌, length, ◌+◌, ◌*◌, ◌/◌}
 use Rattle.om_subsets.specs.declared.binomials.TheConstants.{MOST_SUBSETS}
-use Rattle.om_chirotope.specs.Map.{map_of}
 use Rattle.om_chirotope.specs.declared.threaded_scan.TheConstants.{BLOCK}
 use Rattle.om_chirotope.proofs.BlockLaws.{none_bad, blocks_cover, few_blocks, some_blocks, blocks_fit, numbers_fit}
 use Rattle.om_chirotope.proofs.BlockLaws.{pairs_fit, cost_fits, from_zero}
@@ -10,8 +10,9 @@ use Rattle.om_chirotope.proofs.threaded_scan.scan_on_threads.Goals as goal
 pub returns-in-None-clause-none : goal.returns-in-None-clause-none
 returns-in-None-clause-none g c =
     let size = ap length c.requires.filled in (
-      λ e. none_bad (map_of c.args.raw.now) (length c.args.cocircuits.now / BLOCK + 1) c.from.result
-          (c.from.ensures ∙ c.choose-sets.ensures.value) (some_blocks (length c.args.cocircuits.now))
+      λ e. none_bad c.args.map.now (length c.args.cocircuits.now / BLOCK + 1) c.from.result
+          (c.from.ensures ∙ (c.choose-sets.ensures.value ∙ ap (λ m. choose m.elements (m.rank + 1)) c.map.view_is))
+          (some_blocks (length c.args.cocircuits.now))
           (subst (λ n. n ≤ (length c.args.cocircuits.now / BLOCK + 1) * BLOCK) size
           (blocks_cover (length c.args.cocircuits.now)))
           (λ j l h. c.in-None.ensures j (from_zero j) l h),
@@ -28,11 +29,8 @@ overflow_mul-from g c =
 
 pub invariant_of-probe : goal.invariant_of-probe
 invariant_of-probe g c = record {
-  low = c.requires.low;
-  high = c.requires.high;
   rank_low = c.requires.rank_low;
   rank_high = c.requires.rank_high;
-  whole = c.requires.whole;
   few = c.requires.few;
   filled = c.requires.filled;
   some = some_blocks (length c.args.cocircuits.now);
@@ -40,30 +38,18 @@ invariant_of-probe g c = record {
   all = blocks_cover (length c.args.cocircuits.now);
 }
 
-pub pair_of-requires-clause-blocks : goal.pair_of-requires-clause-blocks
-pair_of-requires-clause-blocks g c = few_blocks (length c.args.cocircuits.now) c.requires.few
-
-pub pair_of-requires-clause-all : goal.pair_of-requires-clause-all
-pair_of-requires-clause-all g c = blocks_cover (length c.args.cocircuits.now)
-
-pub pair_of-requires-clause-filled : goal.pair_of-requires-clause-filled
-pair_of-requires-clause-filled g c = c.requires.filled
-
 pub pair_of-requires-clause-bad : goal.pair_of-requires-clause-bad
 pair_of-requires-clause-bad g c = c.in-Some.ensures.is_bad
 
 pub returns-in-Some-clause-none : goal.returns-in-Some-clause-none
 returns-in-Some-clause-none g c =
-    some_found (map_of c.args.raw.now) c.pair_of.result c.pair_of.ensures.some c.pair_of.ensures.first
+    some_found c.args.map.now c.pair_of.result c.pair_of.ensures.some c.pair_of.ensures.first
 
 pub returns-in-Some-clause-first : goal.returns-in-Some-clause-first
 returns-in-Some-clause-first g c = c.pair_of.ensures.first
 
 pub overflow_add-blocks : goal.overflow_add-blocks
 overflow_add-blocks g c = blocks_fit (length c.args.cocircuits.now) c.requires.few
-
-pub pair_of-requires-clause-some : goal.pair_of-requires-clause-some
-pair_of-requires-clause-some g c = some_blocks (length c.args.cocircuits.now)
 
 pub overflow_mul-cost : goal.overflow_mul-cost
 overflow_mul-cost g c = pairs_fit (length c.args.cocircuits.now) c.min.result c.min.ensures

@@ -1,4 +1,3 @@
-use Rattle.om_chirotope.specs.Map.{map_of}
 use Rattle.std.proofs.Common.{◌-◌}
 use Rattle.om_subsets.proofs.Walks.{IsAt}
 use Rattle.om_chirotope.proofs.Rows.{AreBalancedBelow}
@@ -6,6 +5,6 @@ use Rattle.om_chirotope.proofs.three_terms.has_relations.Given as goal
 
 abbrev pub invariant-loop-k : goal.invariant-loop-k
 invariant-loop-k l = record {
-  balanced : AreBalancedBelow (map_of l.raw) l._k;
-  at : IsAt l.raw.elements (l.raw.rank - 2) l._k l.p;
+  balanced : AreBalancedBelow l.map l._k;
+  at : IsAt l.map.elements (l.map.rank - 2) l._k l.p;
 }

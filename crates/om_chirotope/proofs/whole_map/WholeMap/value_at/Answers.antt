@@ -2,10 +2,10 @@ use Rattle.std.proofs.Common.{◌+◌, ◌-◌, ◌∙◌, length, get_or, refl,
 use Rattle.std.proofs.lemmas.Bool.{false≢true}
 use Rattle.om_laws.proofs.MemberLaws.{member_at}
 use Rattle.om_subsets.specs.Subsets.{IsMember}
-use Rattle.om_chirotope.specs.Map.{map_of, chi_of}
+use Rattle.om_chirotope.specs.Map.{chi_of}
 use Rattle.om_chirotope.proofs.Cocircuits.{length-with}
 use Rattle.om_chirotope.proofs.SortedTuples.{value_repeat, next_element}
-use Rattle.om_chirotope.proofs.vectors.value_at.Goals as goal
+use Rattle.om_chirotope.proofs.whole_map.WholeMap.value_at.Goals as goal
 
 pub has-requires-clause-low : goal.has-requires-clause-low
 has-requires-clause-low c =
@@ -61,7 +61,7 @@ with-set-requires-clause-high c =
 pub returns-then-has : goal.returns-then-has
 returns-then-has c =
     let e = get_or c.args.tuple.now (length c.args.tuple.now - 1 - c.loop-i.i) 0 in
-    value_repeat (chi_of (map_of c.args.raw.now)) c.args.tuple.now c.loop-i.i c.loop-i-test.true
+    value_repeat (chi_of c.args.self.now) c.args.tuple.now c.loop-i.i c.loop-i-test.true
     (subst (IsMember e) c.loop-i.invariant.elements (c.if-has.ensures.0 refl))
 
 pub loop-i-preserved : goal.loop-i-preserved

@@ -1,10 +1,10 @@
 use Rattle.std.proofs.Common.{◌≡◌, ◌-◌, length, drop}
 use Rattle.om_laws.specs.Tuples.{sorted, sort_sign}
-use Rattle.om_chirotope.proofs.vectors.value_at.Given as goal
+use Rattle.om_chirotope.proofs.whole_map.WholeMap.value_at.Given as goal
 
 abbrev pub invariant-loop-i : goal.invariant-loop-i
 invariant-loop-i l = record {
-  n : l.set.n ≡ l.raw.elements;
+  n : l.set.n ≡ l.self.elements;
   size : length l.set.elements ≡ l.i;
   elements : l.set.elements ≡ sorted (drop (length l.tuple - l.i) l.tuple);
   sign : l.sign ≡ sort_sign (drop (length l.tuple - l.i) l.tuple);

@@ -1,0 +1,26 @@
+-- The sets that calls give for the numbers of a lent map, as sets of the map that contracts see.
+--
+-- Main results: placed, the set at a place; at_placed, where a walk over the sets begins.
+use Rattle.std.specs.Prelude.{ℕ, ◌≡◌, length}
+use Rattle.std.proofs.Common.{subst}
+use Rattle.om_subsets.specs.Subsets.{rank_of, IsSubsetFrom}
+use Rattle.om_subsets.specs.Members.{Chosen}
+use Rattle.om_subsets.proofs.Walks.{IsAt}
+use Rattle.om_chirotope.specs.Map.{SignMap}
+
+-- the set at place k of those of r of the elements 1 to n
+pub record IsPlaced (n r k : ℕ) (a : Chosen) : Type 0 where
+  pub n_is : a.n ≡ n
+  pub size : length a.elements ≡ r
+  pub list : IsSubsetFrom 1 n a.elements
+  pub place : rank_of n a.elements ≡ k
+
+-- a set at place k by the numbers of the map m is at this place by those of w, which is the same map
+pub placed : (r : SignMap → ℕ) (m w : SignMap) (k : ℕ) (a : Chosen) → m ≡ w → a.n ≡ m.elements
+    → length a.elements ≡ r m → IsSubsetFrom 1 m.elements a.elements → rank_of m.elements a.elements ≡ k
+    → IsPlaced w.elements (r w) k a
+placed r m w k a same n size list place =
+    subst (λ v. IsPlaced v.elements (r v) k a) same (record { n_is = n; size = size; list = list; place = place })
+
+pub at_placed : (n r k : ℕ) (a : Chosen) → IsPlaced n r k a → IsAt n r k a
+at_placed n r k a p = record { n_is = p.n_is; size = p.size; list = p.list; place = λ l. p.place }
