@@ -12,7 +12,7 @@ use super::bad_three::BadThree;
 use super::exchanges::first_unexchanged;
 use super::relations::first_unbalanced;
 use super::three_refused::ThreeRefused;
-use om_chirotope::Chirotope;
+use om_chirotope::{Chirotope, WholeMap};
 use om_signs::{MAX_ELEMENTS, RawMap, Sign};
 use std::thread::Threads;
 
@@ -42,33 +42,30 @@ pub fn check<R: Threads + Sync>(rt: &R, raw: RawMap) -> Result<Chirotope, BadThr
     ensures relation { IfErr result (λ bad. (p q : Chosen) → bad.why ≡ ThreeRefused.ThreeTerm p q → HasExchange (map_of raw)
         × IsFirstUnbalanced (map_of raw) p q) }
 {
-    match first_failure(rt, &raw) {
+    match first_failure(rt, &WholeMap { raw: &raw }) {
         None => Ok(Chirotope::lawful(raw)),
         Some(why) => Err(BadThree { raw, why }),
     }
 }
 
 /// The first part of the three-term test that fails, or None if the map meets it.
-fn first_failure<R: Threads + Sync>(rt: &R, raw: &RawMap) -> Option<ThreeRefused>
-    requires low { 1 ≤ raw.now.elements }
-    requires high { raw.now.elements ≤ MAX_ELEMENTS }
-    requires rank { raw.now.rank ≤ raw.now.elements }
-    requires whole { length raw.now.signs ≡ choose raw.now.elements raw.now.rank }
-    ensures none { IfNone result (MeetsThreeTermTest (map_of raw.now)) }
-    ensures some { IfSome result (λ why. MeetsThreeTermTest (map_of raw.now) → ⊥) }
-    ensures all_zero { IfSome result (λ why. (why ≡ ThreeRefused.AllZero) ↔ IsAllZero raw.now.signs) }
+fn first_failure<R: Threads + Sync>(rt: &R, map: &WholeMap) -> Option<ThreeRefused>
+    requires { map.now.elements ≤ MAX_ELEMENTS }
+    ensures none { IfNone result (MeetsThreeTermTest map.now) }
+    ensures some { IfSome result (λ why. MeetsThreeTermTest map.now → ⊥) }
+    ensures all_zero { IfSome result (λ why. (why ≡ ThreeRefused.AllZero) ↔ IsAllZero map.now.signs) }
     ensures exchange { IfSome result (λ why. (b c : Chosen) (e : ℕ) → why ≡ ThreeRefused.NoExchange b c e
-        → IsFirstUnexchanged (map_of raw.now) b c e) }
-    ensures relation { IfSome result (λ why. (p q : Chosen) → why ≡ ThreeRefused.ThreeTerm p q → HasExchange (map_of raw.now)
-        × IsFirstUnbalanced (map_of raw.now) p q) }
+        → IsFirstUnexchanged map.now b c e) }
+    ensures relation { IfSome result (λ why. (p q : Chosen) → why ≡ ThreeRefused.ThreeTerm p q → HasExchange map.now
+        × IsFirstUnbalanced map.now p q) }
 {
-    if is_all_zero(raw.signs.as_slice()) {
+    if is_all_zero(map.raw.signs.as_slice()) {
         return Some(ThreeRefused::AllZero);
     }
-    if let Some((b, c, e)) = first_unexchanged(rt, raw) {
+    if let Some((b, c, e)) = first_unexchanged(rt, map) {
         return Some(ThreeRefused::NoExchange { b, c, e });
     }
-    match first_unbalanced(rt, raw) {
+    match first_unbalanced(rt, map) {
         None => None,
         Some((p, q)) => Some(ThreeRefused::ThreeTerm { p, q }),
     }

@@ -1,12 +1,12 @@
 //! Sets of elements: all sets of one size, which of them are bases, and the elements of a set of four.
 
-ghost use Rattle.std.specs.Prelude.{ℕ, ◌≡◌, ◌+◌, ◌<◌, ◌≤◌, ◌↔◌, ◌∷◌, [], length, take, IsTrue};
+ghost use Rattle.std.specs.Prelude.{◌≡◌, ◌+◌, ◌<◌, ◌≤◌, ◌↔◌, ◌∷◌, [], length, take, IsTrue};
 ghost use Rattle.om_subsets.specs.Subsets.{choose, subset_at, IsSubsetFrom};
-ghost use Rattle.om_chirotope.specs.Map.{map_of};
 ghost use Rattle.om_chirotope.specs.ThreeTerm.{IsBasis};
 ghost use Rattle.om_threeterm.specs.Sets.{all_chosen};
 
-use om_signs::{MAX_PLACES, MAX_VALUES, RawMap, Sign};
+use om_chirotope::WholeMap;
+use om_signs::{MAX_PLACES, MAX_VALUES, Sign};
 use om_subsets::Subset;
 
 /// The size of a table of sets of one size: one for each value of the largest map of a document.
@@ -29,40 +29,21 @@ pub fn fill(elements: u8, size: u8, table: &mut [Subset])
     }
 }
 
-/// The set at place k of those of as many elements as the rank: from a table of the first of them, or found by its
-/// place.
-pub fn set_at(raw: &RawMap, sets: &[Subset], k: usize) -> Subset
-    requires high { raw.now.elements ≤ MAX_PLACES }
-    requires rank { raw.now.rank ≤ raw.now.elements }
-    requires filled { sets.now ≡ take (length sets.now) (all_chosen raw.now.elements raw.now.rank) }
-    requires within { k < choose raw.now.elements raw.now.rank }
-    ensures n { result.n ≡ raw.now.elements }
-    ensures elements { result.elements ≡ subset_at raw.now.elements raw.now.rank k }
-    ensures size { length result.elements ≡ raw.now.rank }
-{
-    if k < sets.len() {
-        return sets[k];
-    }
-    Subset::unrank(k as u32, raw.rank, raw.elements)
-}
-
 /// Whether a set of as many elements as the rank is a basis.
-pub fn is_basis(raw: &RawMap, s: Subset) -> bool
-    requires n { s.n ≡ raw.now.elements }
-    requires size { length s.elements ≡ raw.now.rank }
-    requires whole { length raw.now.signs ≡ choose raw.now.elements raw.now.rank }
-    ensures { IsTrue result ↔ IsBasis (map_of raw.now) s.elements }
+pub fn is_basis(map: &WholeMap, s: Subset) -> bool
+    requires n { s.n ≡ map.now.elements }
+    requires size { length s.elements ≡ map.now.rank }
+    ensures { IsTrue result ↔ IsBasis map.now s.elements }
 {
-    is_nonzero(raw.signs.at(s.rank() as usize))
+    is_nonzero(map.sign_at(s))
 }
 
 /// Whether the set at place k, of as many elements as the rank, is a basis.
-pub fn is_basis_at(raw: &RawMap, k: usize) -> bool
-    requires whole { length raw.now.signs ≡ choose raw.now.elements raw.now.rank }
-    requires within { k < choose raw.now.elements raw.now.rank }
-    ensures { IsTrue result ↔ IsBasis (map_of raw.now) (subset_at raw.now.elements raw.now.rank k) }
+pub fn is_basis_at(map: &WholeMap, k: usize) -> bool
+    requires { k < choose map.now.elements map.now.rank }
+    ensures { IsTrue result ↔ IsBasis map.now (subset_at map.now.elements map.now.rank k) }
 {
-    is_nonzero(raw.signs.at(k))
+    is_nonzero(map.raw.signs.at(k))
 }
 
 /// Whether the sign isn't 0.

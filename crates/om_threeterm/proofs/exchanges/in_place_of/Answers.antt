@@ -3,7 +3,6 @@ use Rattle.std.proofs.lemmas.Bool.{false≢true}
 use Rattle.om_subsets.specs.Subsets.{IsMember, with_element, without_element}
 use Rattle.om_subsets.proofs.Places.{members-zero}
 use Rattle.om_subsets.proofs.Statements.{members_without}
-use Rattle.om_chirotope.specs.Map.{map_of}
 use Rattle.om_chirotope.specs.ThreeTerm.{IsBasis}
 use Rattle.om_chirotope.proofs.Circuits.{length-without}
 use Rattle.om_chirotope.proofs.Cocircuits.{length-with}
@@ -15,9 +14,10 @@ use Rattle.om_threeterm.proofs.exchanges.in_place_of.Goals.{else-not-has-via-the
 use Rattle.om_threeterm.proofs.exchanges.in_place_of.Goals.{else-not-has-via-else-not-has}
 
 pub loop-f-init : goal.loop-f-init
-loop-f-init c = in_place_start (map_of c.args.raw.now) c.args.b.elements c.args.e c.from_mask.result
-    c.with-others.result (c.from_mask.ensures.elements ∙ members-zero 1 c.args.raw.now.elements)
-    (c.with-others.ensures.n ∙ c.from_mask.ensures.n) c.with-others.ensures.elements
+loop-f-init c = in_place_start c.args.map.now c.args.b.elements c.args.e c.from_mask.result
+    c.with-others.result (c.from_mask.ensures.elements ∙ members-zero 1 c.map.inside.raw.now.elements)
+    (c.with-others.ensures.n ∙ c.from_mask.ensures.n ∙ ap (λ m. m.elements) c.map.view_is)
+    c.with-others.ensures.elements
 
 pub is_basis-requires-clause-size : goal.is_basis-requires-clause-size
 is_basis-requires-clause-size c =
@@ -27,11 +27,11 @@ is_basis-requires-clause-size c =
     λ k. off ((members_without c.args.e c.loop-f.f c.args.b.elements).0 k).1 in
     let same = c.with.ensures.elements ∙ ap (with_element c.loop-f.f) c.without-rest.ensures.elements in
     ap length same ∙ length-with c.loop-f.f (without_element c.args.e c.args.b.elements) fresh
-    ∙ length-without 1 c.args.raw.now.elements c.args.e c.args.b.elements basis.list c.requires.inside ∙ basis.size
+    ∙ length-without 1 c.args.map.now.elements c.args.e c.args.b.elements basis.list c.requires.inside ∙ basis.size
 
 pub loop-f-preserved : goal.loop-f-preserved
 loop-f-preserved c =
-    let m = map_of c.args.raw.now in
+    let m = c.args.map.now in
     let b = c.args.b.elements in
     elim c.if-not-has.branch [
       | then-not-has+then-is_basis w ↦
@@ -56,5 +56,6 @@ loop-f-preserved c =
 pub returns-clause-each : goal.returns-clause-each
 returns-clause-each c =
     let over = c.loop-f-test.false in
-    in_place_end (map_of c.args.raw.now) c.args.b.elements c.args.e c.loop-f.f c.loop-f.others (omega arith)
+    let same = ap (λ m. m.elements) c.map.view_is in
+    in_place_end c.args.map.now c.args.b.elements c.args.e c.loop-f.f c.loop-f.others (omega arith)
     c.loop-f.invariant

@@ -1,23 +1,23 @@
-use Rattle.std.proofs.Common.{sym, subst, ◌+◌, None}
+use Rattle.std.proofs.Common.{ap, ◌∙◌, sym, subst, ◌+◌, None}
 use Rattle.om_subsets.specs.Subsets.{choose}
-use Rattle.om_chirotope.specs.Map.{map_of}
 use Rattle.om_threeterm.proofs.ExchangePlaces.{IsBestBefore, best_start, best_same, best_new}
 use Rattle.om_threeterm.proofs.ExchangeLaws.{place_pair, no_element_zero, none_of_best, first_of_best}
-use Rattle.om_threeterm.proofs.exchanges.first_unexchanged_of.Goals as goal
-use Rattle.om_threeterm.proofs.exchanges.first_unexchanged_of.Goals.{in-Some, in_default}
+use Rattle.om_threeterm.proofs.exchanges.Bases.first_unexchanged_of.Goals as goal
+use Rattle.om_threeterm.proofs.exchanges.Bases.first_unexchanged_of.Goals.{in-Some, in_default}
 
 pub loop-e-init : goal.loop-e-init
 loop-e-init c =
-    let raw = c.args.raw.now in
-    let pair = place_pair (map_of raw) c.args.b.elements in
-    subst (λ k. IsBestBefore pair (choose raw.elements raw.rank) k 1 None) (sym c.choose-limit.ensures.value)
-    (best_start pair (choose raw.elements raw.rank) (no_element_zero (map_of raw) c.args.b.elements))
+    let m = c.args.self.now.map.now in
+    let pair = place_pair m c.args.b.elements in
+    subst (λ k. IsBestBefore pair (choose m.elements m.rank) k 1 None) (sym (c.choose-limit.ensures.value ∙ ap (λ m.
+    choose m.elements m.rank) c.map.view_is))
+    (best_start pair (choose m.elements m.rank) (no_element_zero m c.args.b.elements))
 
 pub loop-e-preserved : goal.loop-e-preserved
 loop-e-preserved c =
-    let raw = c.args.raw.now in
-    let pair = place_pair (map_of raw) c.args.b.elements in
-    let count = choose raw.elements raw.rank in
+    let m = c.args.self.now.map.now in
+    let pair = place_pair m c.args.b.elements in
+    let count = choose m.elements m.rank in
     elim c.match-first_unexchanged_by.branch [
       | in-Some w ↦
           subst (λ k. IsBestBefore pair count k (c.loop-e.e + 1) c.match-first_unexchanged_by.found) (sym w.limit-is)
@@ -32,25 +32,25 @@ loop-e-preserved c =
 
 pub returns-in-None-clause-none : goal.returns-in-None-clause-none
 returns-in-None-clause-none c =
-    let raw = c.args.raw.now in
-    let pair = place_pair (map_of raw) c.args.b.elements in
-    none_of_best (map_of raw) c.args.b.elements c.loop-e.limit c.loop-e.e c.loop-e-test.false
-    (subst (λ o. IsBestBefore pair (choose raw.elements raw.rank) c.loop-e.limit c.loop-e.e o) c.in-None.is
+    let m = c.args.self.now.map.now in
+    let pair = place_pair m c.args.b.elements in
+    none_of_best m c.args.b.elements c.loop-e.limit c.loop-e.e (rw (← c.map.view_is) c.loop-e-test.false)
+    (subst (λ o. IsBestBefore pair (choose m.elements m.rank) c.loop-e.limit c.loop-e.e o) c.in-None.is
     c.loop-e.invariant)
 
-pub set_at-requires-clause-within : goal.set_at-requires-clause-within
-set_at-requires-clause-within c =
-    let raw = c.args.raw.now in
+pub set_at-requires : goal.set_at-requires
+set_at-requires c =
+    let m = c.args.self.now.map.now in
     let best =
-    subst (λ o. IsBestBefore (place_pair (map_of raw) c.args.b.elements) (choose raw.elements raw.rank)
+    subst (λ o. IsBestBefore (place_pair m c.args.b.elements) (choose m.elements m.rank)
     c.loop-e.limit c.loop-e.e o) c.in-Some-found.is c.loop-e.invariant in
     best.found_is.within
 
 pub returns-in-Some-found-clause-first : goal.returns-in-Some-found-clause-first
 returns-in-Some-found-clause-first c =
-    let raw = c.args.raw.now in
+    let m = c.args.self.now.map.now in
     let best =
-    subst (λ o. IsBestBefore (place_pair (map_of raw) c.args.b.elements) (choose raw.elements raw.rank)
+    subst (λ o. IsBestBefore (place_pair m c.args.b.elements) (choose m.elements m.rank)
     c.loop-e.limit c.loop-e.e o) c.in-Some-found.is c.loop-e.invariant in
-    first_of_best (map_of raw) c.args.b.elements c.loop-e.limit c.loop-e.e c.in-Some-found.e c.set_at.result
-    c.loop-e-test.false c.set_at.ensures.n c.set_at.ensures.elements best
+    first_of_best m c.args.b.elements c.loop-e.limit c.loop-e.e c.in-Some-found.e c.set_at.result
+    (rw (← c.map.view_is) c.loop-e-test.false) c.set_at.ensures.n c.set_at.ensures.elements best

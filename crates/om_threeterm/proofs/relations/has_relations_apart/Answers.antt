@@ -1,0 +1,5 @@
+use Rattle.std.proofs.Common.{rules}
+use Rattle.om_threeterm.proofs.relations.has_relations_apart.Goals as goal
+
+pub returns : goal.returns
+returns c = rw (← c.map.view_is) (search rules)
