@@ -1,0 +1,135 @@
+-- The first entries of signed permutations.
+--
+-- Main results: they can be completed (completed), the next entry (next_entry), and one more (one_more).
+use Rattle.std.proofs.Common.{ℕ, zero, suc, ◌≡◌, ◌+◌, ◌-◌, ◌<◌, ◌≤◌, ◌⊎◌, List, [], ◌∷◌, ◌++◌, length, get_or, take}
+use Rattle.std.proofs.Common.{refl, sym, ap, subst, ◌∙◌, inl, inr, arith, false}
+use Rattle.std.proofs.lemmas.Bool.{cases_eq}
+use Rattle.std.proofs.lemmas.List.{length-append, length-map, length_push, take-take, take_at, take_all, take_more}
+use Rattle.std.proofs.lemmas.List.{map_push, get_or-take}
+use Rattle.om_laws.specs.Members.{IsMember, IsDistinct}
+use Rattle.om_laws.specs.Sorting.{IsElement, Each}
+use Rattle.om_laws.proofs.MemberLaws.{split_at, member_or_not, member_drop, member_last, distinct_last}
+use Rattle.om_laws.proofs.TupleSizes.{each_member, each_from}
+use Rattle.om_symmetry.specs.declared.signed_element.SignedElement.{SignedElement}
+use Rattle.om_symmetry.specs.Permutations.{IsSignedPermutation, elements_of, signed_at, element_at, no_element}
+use Rattle.om_symmetry.proofs.Distinct.{place_of}
+use Rattle.om_symmetry.proofs.Places.{element_listed, permutation_length, element_within, element_apart}
+use Rattle.om_least.specs.Beginnings.{IsBeginning}
+
+-- ---- an element that is missing
+
+-- some element of 1 to n isn't a member, or all are
+missing_or_all : (n : ℕ) (xs : List ℕ) → ((e : ℕ) × IsElement n e × (IsMember e xs → ⊥))
+    ⊎ ((e : ℕ) → IsElement n e → IsMember e xs)
+missing_or_all zero xs = inr (λ e h. let low = h.0 in let high = h.1 in absurd (omega arith))
+missing_or_all (suc n) xs = elim (missing_or_all n xs) [
+  | inl k ↦
+      let low = k.1.0 in
+      let high = k.1.1 in
+      inl (k.0, (low, omega arith), k.2)
+  | inr all ↦ elim (member_or_not (suc n) xs) [
+    | inl m ↦ inr (λ e h. elim (cases_eq e (suc n)) [
+      | inl q ↦ subst (λ z. IsMember z xs) (sym q) m
+      | inr ne ↦ let low = h.0 in let high = h.1 in all e (low, omega arith)
+    ])
+    | inr off ↦ inl (suc n, (omega arith, omega arith), off)
+  ]
+]
+
+covered : (n : ℕ) (xs : List ℕ) → ((e : ℕ) → IsElement n e → IsMember e xs) → n ≤ length xs
+covered zero xs all = omega arith
+covered (suc n) xs all =
+    let s = split_at (suc n) xs (all (suc n) (omega arith, omega arith)) in
+    let rest = covered n (s.0 ++ s.1) (λ e h. other s.0 s.1 e h (subst (IsMember e) s.2 (all e (wider e h)))) in
+    let a = length-append s.0 s.1 in
+    let b = length-append s.0 (suc n ∷ s.1) in
+    let q = ap length s.2 in
+    omega arith
+  where
+    wider : (e : ℕ) → IsElement n e → IsElement (suc n) e
+    wider e h = let low = h.0 in let high = h.1 in (low, omega arith)
+
+    other : (u v : List ℕ) (e : ℕ) → IsElement n e → IsMember e (u ++ suc n ∷ v) → IsMember e (u ++ v)
+    other u v e h m = elim (member_drop e u (suc n) v m) [
+      | inl q ↦ let high = h.1 in absurd (omega arith)
+      | inr k ↦ k
+    ]
+
+missing : (n : ℕ) (xs : List ℕ) → length xs < n → (e : ℕ) × IsElement n e × (IsMember e xs → ⊥)
+missing n xs l = elim (missing_or_all n xs) [
+  | inl k ↦ k
+  | inr all ↦ let c = covered n xs all in absurd (omega arith)
+]
+
+-- ---- one more entry
+
+pub elements_push : (w : List SignedElement) (a : SignedElement)
+    → elements_of (w ++ a ∷ []) ≡ elements_of w ++ a.element ∷ []
+elements_push w a = map_push (λ (b : SignedElement). b.element) w a
+
+pub one_more : (n : ℕ) (w : List SignedElement) (a : SignedElement) → IsBeginning n w → IsElement n a.element
+    → (IsMember a.element (elements_of w) → ⊥) → IsBeginning n (w ++ a ∷ [])
+one_more n w a h i off = record {
+  within = subst (Each (IsElement n)) (sym (elements_push w a))
+      (each_from (IsElement n) (elements_of w ++ a.element ∷ []) (λ e m.
+      elim (member_last e a.element (elements_of w) m) [
+        | inl k ↦ each_member (IsElement n) (elements_of w) h.within e k
+        | inr q ↦ subst (IsElement n) (sym q) i
+      ]));
+  distinct = subst IsDistinct (sym (elements_push w a)) (distinct_last (elements_of w) a.element h.distinct off);
+}
+
+pub begins_shorter : (w v : List SignedElement) (a : SignedElement) → take (length (w ++ a ∷ [])) v ≡ w ++ a ∷ []
+    → take (length w) v ≡ w
+begins_shorter w v a q =
+    let l = length_push w a in
+    sym (take-take (length w) (length (w ++ a ∷ [])) v (omega arith)) ∙ ap (take (length w)) q
+    ∙ take_at w (a ∷ []) (length w) refl
+
+-- ---- completion
+
+completed_by : (n d : ℕ) (w : List SignedElement) → IsBeginning n w → length w + d ≡ n
+    → (v : List SignedElement) × IsSignedPermutation n v × (take (length w) v ≡ w)
+completed_by n zero w h q =
+    let l = length-map w (λ (a : SignedElement). a.element) in (
+      w,
+      record { tuple = record { size = omega arith; within = h.within }; distinct = h.distinct },
+      take_all (length w) w (omega arith),
+    )
+completed_by n (suc d) w h q =
+    let l = length-map w (λ (a : SignedElement). a.element) in
+    let e = missing n (elements_of w) (omega arith) in
+    let a : SignedElement = record { element = e.0; negated = false } in
+    let k = length_push w a in
+    let rest = completed_by n d (w ++ a ∷ []) (one_more n w a h e.1 e.2) (omega arith) in
+    (rest.0, rest.1, begins_shorter w rest.0 a rest.2)
+
+pub completed : (n : ℕ) (w : List SignedElement) → IsBeginning n w → length w ≤ n
+    → (v : List SignedElement) × IsSignedPermutation n v × (take (length w) v ≡ w)
+completed n w h l = completed_by n (n - length w) w h (omega arith)
+
+-- ---- the next entry of a signed permutation
+
+module _ (n : ℕ) (w v : List SignedElement) (p : IsSignedPermutation n v) (q : take (length w) v ≡ w)
+    (l : length w < n) where
+  pub next_begins : take (length w + 1) v ≡ w ++ signed_at v (suc (length w)) ∷ []
+  next_begins =
+      let whole = permutation_length n v p in
+      take_more v (length w) no_element (omega arith) ∙ ap (λ u. u ++ signed_at v (suc (length w)) ∷ []) q
+
+  pub next_within : IsElement n (element_at v (suc (length w)))
+  next_within = element_within n v p (suc (length w)) (omega arith, omega arith)
+
+  entry_of : (i : ℕ) → i < length w → get_or (elements_of w) i 0 ≡ element_at v (suc i)
+  entry_of i lt = sym (element_listed w i) ∙ ap (λ (u : List SignedElement). element_at u (suc i)) (sym q)
+      ∙ ap (λ (a : SignedElement). a.element) (get_or-take (length w) v i no_element lt)
+
+  pub next_off : IsMember (element_at v (suc (length w))) (elements_of w) → ⊥
+  next_off m =
+      let k = place_of (element_at v (suc (length w))) (elements_of w) m in
+      let few = k.1 in
+      let size = length-map w (λ (a : SignedElement). a.element) in
+      let lt : k.0 < length w = omega arith in
+      let same = element_apart n v p (suc k.0) (suc (length w)) (omega arith, omega arith) (omega arith, omega arith)
+      (sym (entry_of k.0 lt) ∙ k.2) in
+      absurd (omega arith)

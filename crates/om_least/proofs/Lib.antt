@@ -1,0 +1,9 @@
+pub mod Signs
+pub mod Reverse
+pub mod Orders
+pub mod Tuples
+pub mod SameMaps
+pub mod Increasing
+pub mod Completing
+pub mod FirstSigns
+pub mod Entries

@@ -1,0 +1,78 @@
+//! The search for an image that comes before a chirotope: over the signed permutations, entry by entry.
+
+ghost use Rattle.std.specs.Prelude.{◌≡◌, ◌≤◌, ◌-◌, ◌↔◌, length, take, IsTrue};
+ghost use Rattle.om_subsets.specs.Subsets.{choose};
+ghost use Rattle.om_least.specs.Least.{IsLeast};
+ghost use Rattle.om_least.specs.Beginnings.{IsBeginning, IsLeastBehind, first_signs, first_image_signs};
+
+use super::beginning::Beginning;
+use super::comparing::compared;
+use om_chirotope::Chirotope;
+use om_symmetry::SignedElement;
+use std::cmp::Ordering;
+
+/// Whether a chirotope is the least one of its class up to relabelling and reorientation: no image of it under a signed
+/// permutation comes before it, if the signs are read in reverse lexicographic order of the sets, minus before zero and
+/// zero before plus.
+///
+/// The signed permutations are tried entry by entry. The signs of an image at the sets of the first elements depend on
+/// the first entries alone. If they come after those of the chirotope, all images that begin so do.
+///
+/// Source: Finschi and Fukuda, *Generation of oriented matroids* (2002).
+pub fn is_least(chi: &Chirotope) -> bool
+    ensures { IsTrue result ↔ IsLeast chi.now }
+{
+    is_least_behind(chi, &Beginning::empty())
+}
+
+/// Whether no image under a signed permutation that begins with these entries comes before the chirotope. The first
+/// signs of such an image are those of the chirotope.
+#[cycle(walk)]
+fn is_least_behind(chi: &Chirotope, beginning: &Beginning) -> bool
+    requires begun { IsBeginning chi.now.elements beginning.now }
+    requires few { length beginning.now ≤ chi.now.elements }
+    requires tied { first_image_signs chi.now beginning.now ≡ first_signs chi.now (length beginning.now) }
+    ensures { IsTrue result ↔ IsLeastBehind chi.now beginning.now }
+{
+    let elements = chi.elements();
+    if beginning.len() == elements {
+        return true;
+    }
+    for element in 1..elements + 1 {
+        if !beginning.has(element) {
+            let plain = SignedElement {
+                element,
+                negated: false,
+            };
+            if !is_least_with(chi, &beginning.followed_by(plain)) {
+                return false;
+            }
+            let negative = SignedElement {
+                element,
+                negated: true,
+            };
+            if !is_least_with(chi, &beginning.followed_by(negative)) {
+                return false;
+            }
+        }
+    }
+    true
+}
+
+/// Whether no image under a signed permutation that begins with these entries comes before the chirotope. The first
+/// signs of such an image, but those of the sets with the last of these elements, are those of the chirotope.
+#[cycle(walk)]
+fn is_least_with(chi: &Chirotope, beginning: &Beginning) -> bool
+    requires begun { IsBeginning chi.now.elements beginning.now }
+    requires some { 1 ≤ length beginning.now }
+    requires few { length beginning.now ≤ chi.now.elements }
+    requires tied { take (choose (length beginning.now - 1) chi.now.rank) (first_image_signs chi.now beginning.now)
+        ≡ take (choose (length beginning.now - 1) chi.now.rank) (first_signs chi.now (length beginning.now)) }
+    ensures { IsTrue result ↔ IsLeastBehind chi.now beginning.now }
+{
+    match compared(chi, beginning) {
+        Ordering::Less => false,
+        Ordering::Greater => true,
+        Ordering::Equal => is_least_behind(chi, beginning),
+    }
+}
