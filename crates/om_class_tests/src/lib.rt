@@ -1,4 +1,4 @@
-//! The tests of the public calls of om_symmetry, om_label and om_covers.
+//! The tests of the public calls of om_symmetry, om_label, om_least and om_covers.
 #![tactic(auto)]
 
 #[cfg(test)]
@@ -7,3 +7,5 @@ mod growing;
 mod images;
 #[cfg(test)]
 mod labels;
+#[cfg(test)]
+mod least;
