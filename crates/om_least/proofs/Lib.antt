@@ -2,6 +2,8 @@ pub mod Signs
 pub mod Reverse
 pub mod Orders
 pub mod Tuples
+pub mod Tables
+pub mod TripleSteps
 pub mod SameMaps
 pub mod Increasing
 pub mod Completing

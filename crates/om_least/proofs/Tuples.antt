@@ -11,7 +11,7 @@ use Rattle.om_laws.specs.Sorting.{IsElement, Each}
 use Rattle.om_laws.proofs.MemberLaws.{member_at}
 use Rattle.om_laws.proofs.TupleSizes.{each_member}
 use Rattle.om_symmetry.specs.declared.signed_element.SignedElement.{SignedElement}
-use Rattle.om_symmetry.specs.Permutations.{elements_of, element_at, no_element}
+use Rattle.om_symmetry.specs.Permutations.{elements_of, signed_at, element_at, no_element}
 use Rattle.om_symmetry.proofs.Distinct.{place_of}
 use Rattle.om_symmetry.proofs.Places.{element_listed}
 use Rattle.om_symmetry.proofs.Tuples.{IsTupleTo, tuple_all}
@@ -48,6 +48,11 @@ module _ (n : ℕ) (w : List SignedElement) (h : IsBeginning n w) where
       subst (IsElement n) (sym (element_listed w i))
       (each_member (IsElement n) (elements_of w) h.within (get_or (elements_of w) i 0)
       (member_at (elements_of w) i (omega arith)))
+
+  -- what a call finds at a place
+  pub entry_within : (i : ℕ) (a : SignedElement) → a ≡ signed_at w i → 1 ≤ i → i ≤ length w → IsElement n a.element
+  entry_within i a q low high =
+      subst (λ (b : SignedElement). IsElement n b.element) (sym q) (old_within i (low, high))
 
   old_elements : (s : List ℕ) → Each (IsElement (length w)) s → Each (IsElement n) (map (element_at w) s)
   old_elements [] i = tt

@@ -5,9 +5,11 @@ ghost use Rattle.om_signs.specs.Order.{lexicographic};
 ghost use Rattle.om_subsets.specs.Subsets.{choose, IsSubsetFrom};
 ghost use Rattle.om_chirotope.specs.Map.{value_of};
 ghost use Rattle.om_symmetry.specs.Permutations.{image_value};
+ghost use Rattle.om_least.specs.Triples.{IsTableOfValues};
 ghost use Rattle.om_least.specs.Beginnings.{IsBeginning, first_signs, first_image_signs};
 
 use super::beginning::{Beginning, ROOM};
+use super::values::value_at;
 use om_chirotope::Chirotope;
 use om_signs::Sign;
 use om_subsets::Subset;
@@ -15,8 +17,41 @@ use std::cmp::Ordering;
 
 /// How the first signs of the images under the signed permutations that begin with these entries compare with those of
 /// the chirotope. They are the signs of the sets of the first elements, as many as there are entries. Those of the sets
-/// without the last of these elements are the same.
-pub(crate) fn compared(chi: &Chirotope, beginning: &Beginning) -> Ordering
+/// without the last of these elements are the same. In rank 3 the values are those of a table.
+pub(crate) fn compared(chi: &Chirotope, values: &[Sign], beginning: &Beginning) -> Ordering
+    requires begun { IsBeginning chi.now.elements beginning.now }
+    requires some { 1 ≤ length beginning.now }
+    requires few { length beginning.now ≤ chi.now.elements }
+    requires tied { take (choose (length beginning.now - 1) chi.now.rank) (first_image_signs chi.now beginning.now)
+        ≡ take (choose (length beginning.now - 1) chi.now.rank) (first_signs chi.now (length beginning.now)) }
+    requires table { chi.now.rank ≡ 3 → IsTableOfValues chi.now values.now }
+    ensures { result
+        ≡ lexicographic (first_image_signs chi.now beginning.now) (first_signs chi.now (length beginning.now)) }
+{
+    if chi.rank() != 3 {
+        return compared_by_sets(chi, beginning);
+    }
+    let last = beginning.len();
+    let c = beginning.at(last);
+    for j in 2..last {
+        let b = beginning.at(j);
+        let turn = b.sign().times(c.sign());
+        for i in 1..j {
+            let a = beginning.at(i);
+            let value = value_at(values, a.element, b.element, c.element);
+            let image = a.sign().times(turn).times(value);
+            match image.cmp(&value_at(values, i, j, last)) {
+                Ordering::Less => return Ordering::Less,
+                Ordering::Greater => return Ordering::Greater,
+                Ordering::Equal => {}
+            }
+        }
+    }
+    Ordering::Equal
+}
+
+/// The same in any rank, with the values of the chirotope.
+fn compared_by_sets(chi: &Chirotope, beginning: &Beginning) -> Ordering
     requires begun { IsBeginning chi.now.elements beginning.now }
     requires some { 1 ≤ length beginning.now }
     requires few { length beginning.now ≤ chi.now.elements }

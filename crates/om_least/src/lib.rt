@@ -10,6 +10,7 @@ mod comparing;
 mod laws;
 mod order;
 mod search;
+mod values;
 
 pub use laws::{exactly_one_of_each_class, isomorphic_least_maps, places_of_least_maps};
 pub use order::is_before;

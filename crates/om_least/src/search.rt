@@ -3,11 +3,14 @@
 ghost use Rattle.std.specs.Prelude.{◌≡◌, ◌≤◌, ◌-◌, ◌↔◌, length, take, IsTrue};
 ghost use Rattle.om_subsets.specs.Subsets.{choose};
 ghost use Rattle.om_least.specs.Least.{IsLeast};
+ghost use Rattle.om_least.specs.Triples.{IsTableOfValues};
 ghost use Rattle.om_least.specs.Beginnings.{IsBeginning, IsLeastBehind, first_signs, first_image_signs};
 
 use super::beginning::Beginning;
 use super::comparing::compared;
+use super::values::{TRIPLES, values_of};
 use om_chirotope::Chirotope;
+use om_signs::Sign;
 use om_symmetry::SignedElement;
 use std::cmp::Ordering;
 
@@ -22,16 +25,22 @@ use std::cmp::Ordering;
 pub fn is_least(chi: &Chirotope) -> bool
     ensures { IsTrue result ↔ IsLeast chi.now }
 {
-    is_least_behind(chi, &Beginning::empty())
+    let values = if chi.rank() == 3 {
+        values_of(chi)
+    } else {
+        [Sign::Zero; TRIPLES]
+    };
+    is_least_behind(chi, &values, &Beginning::empty())
 }
 
 /// Whether no image under a signed permutation that begins with these entries comes before the chirotope. The first
 /// signs of such an image are those of the chirotope.
 #[cycle(walk)]
-fn is_least_behind(chi: &Chirotope, beginning: &Beginning) -> bool
+fn is_least_behind(chi: &Chirotope, values: &[Sign], beginning: &Beginning) -> bool
     requires begun { IsBeginning chi.now.elements beginning.now }
     requires few { length beginning.now ≤ chi.now.elements }
     requires tied { first_image_signs chi.now beginning.now ≡ first_signs chi.now (length beginning.now) }
+    requires table { chi.now.rank ≡ 3 → IsTableOfValues chi.now values.now }
     ensures { IsTrue result ↔ IsLeastBehind chi.now beginning.now }
 {
     let elements = chi.elements();
@@ -44,14 +53,14 @@ fn is_least_behind(chi: &Chirotope, beginning: &Beginning) -> bool
                 element,
                 negated: false,
             };
-            if !is_least_with(chi, &beginning.followed_by(plain)) {
+            if !is_least_with(chi, values, &beginning.followed_by(plain)) {
                 return false;
             }
             let negative = SignedElement {
                 element,
                 negated: true,
             };
-            if !is_least_with(chi, &beginning.followed_by(negative)) {
+            if !is_least_with(chi, values, &beginning.followed_by(negative)) {
                 return false;
             }
         }
@@ -62,17 +71,18 @@ fn is_least_behind(chi: &Chirotope, beginning: &Beginning) -> bool
 /// Whether no image under a signed permutation that begins with these entries comes before the chirotope. The first
 /// signs of such an image, but those of the sets with the last of these elements, are those of the chirotope.
 #[cycle(walk)]
-fn is_least_with(chi: &Chirotope, beginning: &Beginning) -> bool
+fn is_least_with(chi: &Chirotope, values: &[Sign], beginning: &Beginning) -> bool
     requires begun { IsBeginning chi.now.elements beginning.now }
     requires some { 1 ≤ length beginning.now }
     requires few { length beginning.now ≤ chi.now.elements }
     requires tied { take (choose (length beginning.now - 1) chi.now.rank) (first_image_signs chi.now beginning.now)
         ≡ take (choose (length beginning.now - 1) chi.now.rank) (first_signs chi.now (length beginning.now)) }
+    requires table { chi.now.rank ≡ 3 → IsTableOfValues chi.now values.now }
     ensures { IsTrue result ↔ IsLeastBehind chi.now beginning.now }
 {
-    match compared(chi, beginning) {
+    match compared(chi, values, beginning) {
         Ordering::Less => false,
         Ordering::Greater => true,
-        Ordering::Equal => is_least_behind(chi, beginning),
+        Ordering::Equal => is_least_behind(chi, values, beginning),
     }
 }

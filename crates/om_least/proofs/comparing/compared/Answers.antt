@@ -1,106 +1,214 @@
-use Rattle.std.proofs.Common.{ℕ, ◌≡◌, ◌∙◌, ◌-◌, ◌<◌, ◌≤◌, List, length, take, sym, ap, subst, arith}
-use Rattle.om_subsets.specs.Subsets.{choose, IsSubsetFrom}
-use Rattle.om_subsets.specs.Reverse.{revlex_subset_at}
-use Rattle.om_subsets.proofs.Counts.{choose_grows}
-use Rattle.om_subsets.proofs.ReversePlaces.{reverse_listed}
-use Rattle.om_chirotope.specs.Map.{chi_of, value_of}
-use Rattle.om_symmetry.specs.Permutations.{image_value}
-use Rattle.om_least.specs.Beginnings.{first_signs, first_image_signs}
+use Rattle.std.proofs.Common.{◌≡◌, ◌∙◌, ◌<◌, ◌≤◌, length, ap, arith, ◌∷◌, []}
+use Rattle.om_signs.specs.Sign.{product}
+use Rattle.om_chirotope.specs.Map.{value_of}
+use Rattle.om_symmetry.specs.Permutations.{sign_of, signed_at}
 use Rattle.om_least.proofs.Orders.{less_not_equal, greater_not_equal}
-use Rattle.om_least.proofs.Reverse.{first_set, differs_at, agrees_more, agrees_on_all}
+use Rattle.om_least.proofs.Tuples.{entry_within}
+use Rattle.om_least.proofs.TripleSteps.{triples_differ, triples_more, next_second, triples_all, image_triple}
 use Rattle.om_least.proofs.comparing.compared.Goals as goal
 
-pub loop-place-init : goal.loop-place-init
-loop-place-init c =
+pub value_at-value-requires-clause-x : goal.value_at-value-requires-clause-x
+value_at-value-requires-clause-x c =
     let m = c.args.chi.now in
     let w = c.args.beginning.now in
-    let last = c.len-last.ensures.value in
-    let start : choose (length w - 1) m.rank ≡ c.choose-place.result =
-    sym (c.choose-place.ensures.value ∙ ap (λ k. choose (k - 1) c.rank-rank.result) last
-    ∙ ap (choose (length w - 1)) c.rank-rank.ensures.value) in
-    subst (λ j. take j (first_image_signs m w) ≡ take j (first_signs m (length w))) start c.requires.tied
+    let size = c.len-last.ensures.value in
+    let some = c.requires.some in
+    let j_low = c.loop-j.auto.j in
+    let j_high = c.loop-j-test.true in
+    let i_low = c.loop-i.auto.i in
+    let i_high = c.loop-i-test.true in
+    let jk : c.loop-j.j < length w = omega (arith, j_high, size) in
+    let a = entry_within m.elements w c.requires.begun c.loop-i.i c.at-a.result c.at-a.ensures i_low
+    (omega (arith, i_high, jk)) in
+    let b = entry_within m.elements w c.requires.begun c.loop-j.j c.at-b.result c.at-b.ensures (omega (arith, j_low))
+    (omega (arith, jk)) in
+    let qc : c.at-c.result ≡ signed_at w (length w) = c.at-c.ensures ∙ ap (signed_at w) size in
+    let d = entry_within m.elements w c.requires.begun (length w) c.at-c.result qc some (omega arith) in
+    let few = c.rank.ensures.few in
+    let high = a.1 in
+    omega (arith, few, high)
 
--- the place is that of a set of the first elements
-small_place : (k r j last rank end : ℕ) → j < end → end ≡ choose last rank → last ≡ k → rank ≡ r → j < choose k r
-small_place k r j last rank end lt e ql qr = subst (λ z. j < z) (e ∙ ap (λ i. choose i rank) ql ∙ ap (choose k) qr) lt
-
-set_here : (k n r j elements rank : ℕ) (xs : List ℕ) → k ≤ n → j < choose k r → elements ≡ n → rank ≡ r
-    → xs ≡ revlex_subset_at elements rank j → xs ≡ revlex_subset_at k r j
-set_here k n r j elements rank xs le lt qn qr e =
-    e ∙ ap (λ i. revlex_subset_at i rank j) qn ∙ ap (λ i. revlex_subset_at n i j) qr ∙ first_set k n r j le lt
-
-pub unrank_revlex-s-requires-clause-place : goal.unrank_revlex-s-requires-clause-place
-unrank_revlex-s-requires-clause-place c =
+pub value_at-value-requires-clause-y : goal.value_at-value-requires-clause-y
+value_at-value-requires-clause-y c =
     let m = c.args.chi.now in
-    let k = length c.args.beginning.now in
-    let lt = small_place k m.rank c.loop-place.place c.len-last.result c.rank-rank.result c.choose-place-end.result
-    c.loop-place-test.true c.choose-place-end.ensures.value c.len-last.ensures.value c.rank-rank.ensures.value in
-    let g = choose_grows k m.elements m.rank c.requires.few in
-    let whole : choose c.elements-elements.result c.rank-rank.result ≡ choose m.elements m.rank =
-    ap (λ i. choose i c.rank-rank.result) c.elements-elements.ensures.value
-    ∙ ap (choose m.elements) c.rank-rank.ensures.value in
-    omega (arith, lt, g, whole)
+    let w = c.args.beginning.now in
+    let size = c.len-last.ensures.value in
+    let some = c.requires.some in
+    let j_low = c.loop-j.auto.j in
+    let j_high = c.loop-j-test.true in
+    let i_low = c.loop-i.auto.i in
+    let i_high = c.loop-i-test.true in
+    let jk : c.loop-j.j < length w = omega (arith, j_high, size) in
+    let a = entry_within m.elements w c.requires.begun c.loop-i.i c.at-a.result c.at-a.ensures i_low
+    (omega (arith, i_high, jk)) in
+    let b = entry_within m.elements w c.requires.begun c.loop-j.j c.at-b.result c.at-b.ensures (omega (arith, j_low))
+    (omega (arith, jk)) in
+    let qc : c.at-c.result ≡ signed_at w (length w) = c.at-c.ensures ∙ ap (signed_at w) size in
+    let d = entry_within m.elements w c.requires.begun (length w) c.at-c.result qc some (omega arith) in
+    let few = c.rank.ensures.few in
+    let high = b.1 in
+    omega (arith, few, high)
 
-pub image_sign-requires-clause-first : goal.image_sign-requires-clause-first
-image_sign-requires-clause-first c =
+pub value_at-value-requires-clause-z : goal.value_at-value-requires-clause-z
+value_at-value-requires-clause-z c =
     let m = c.args.chi.now in
-    let k = length c.args.beginning.now in
-    let lt = small_place k m.rank c.loop-place.place c.len-last.result c.rank-rank.result c.choose-place-end.result
-    c.loop-place-test.true c.choose-place-end.ensures.value c.len-last.ensures.value c.rank-rank.ensures.value in
-    let here = set_here k m.elements m.rank c.loop-place.place c.elements-elements.result c.rank-rank.result
-    c.unrank_revlex-s.result.elements c.requires.few lt c.elements-elements.ensures.value c.rank-rank.ensures.value
-    c.unrank_revlex-s.ensures.elements in
-    subst (IsSubsetFrom 1 k) (sym here) (reverse_listed k m.rank c.loop-place.place lt).lawful
+    let w = c.args.beginning.now in
+    let size = c.len-last.ensures.value in
+    let some = c.requires.some in
+    let j_low = c.loop-j.auto.j in
+    let j_high = c.loop-j-test.true in
+    let i_low = c.loop-i.auto.i in
+    let i_high = c.loop-i-test.true in
+    let jk : c.loop-j.j < length w = omega (arith, j_high, size) in
+    let a = entry_within m.elements w c.requires.begun c.loop-i.i c.at-a.result c.at-a.ensures i_low
+    (omega (arith, i_high, jk)) in
+    let b = entry_within m.elements w c.requires.begun c.loop-j.j c.at-b.result c.at-b.ensures (omega (arith, j_low))
+    (omega (arith, jk)) in
+    let qc : c.at-c.result ≡ signed_at w (length w) = c.at-c.ensures ∙ ap (signed_at w) size in
+    let d = entry_within m.elements w c.requires.begun (length w) c.at-c.result qc some (omega arith) in
+    let few = c.rank.ensures.few in
+    let high = d.1 in
+    omega (arith, few, high)
 
 pub returns-in-Less : goal.returns-in-Less
 returns-in-Less c =
     let m = c.args.chi.now in
     let w = c.args.beginning.now in
-    let k = length w in
-    let lt = small_place k m.rank c.loop-place.place c.len-last.result c.rank-rank.result c.choose-place-end.result
-    c.loop-place-test.true c.choose-place-end.ensures.value c.len-last.ensures.value c.rank-rank.ensures.value in
-    let here = set_here k m.elements m.rank c.loop-place.place c.elements-elements.result c.rank-rank.result
-    c.unrank_revlex-s.result.elements c.requires.few lt c.elements-elements.ensures.value c.rank-rank.ensures.value
-    c.unrank_revlex-s.ensures.elements in
-    sym (differs_at k m.rank (image_value w (value_of m)) (chi_of m) c.loop-place.place
-    c.unrank_revlex-s.result.elements c.image_sign.result c.at.result _ lt here c.image_sign.ensures
-    c.at.ensures.place c.loop-place.invariant c.in-Less.ensures less_not_equal)
+    let value = c.rank.ensures.value in
+    let test = c.if-rank-ne3.false in
+    let rank : m.rank ≡ 3 = omega (arith, value, test) in
+    let size = c.len-last.ensures.value in
+    let some = c.requires.some in
+    let j_low = c.loop-j.auto.j in
+    let j_high = c.loop-j-test.true in
+    let i_low = c.loop-i.auto.i in
+    let i_high = c.loop-i-test.true in
+    let jk : c.loop-j.j < length w = omega (arith, j_high, size) in
+    let a = entry_within m.elements w c.requires.begun c.loop-i.i c.at-a.result c.at-a.ensures i_low
+    (omega (arith, i_high, jk)) in
+    let b = entry_within m.elements w c.requires.begun c.loop-j.j c.at-b.result c.at-b.ensures (omega (arith, j_low))
+    (omega (arith, jk)) in
+    let qc : c.at-c.result ≡ signed_at w (length w) = c.at-c.ensures ∙ ap (signed_at w) size in
+    let d = entry_within m.elements w c.requires.begun (length w) c.at-c.result qc some (omega arith) in
+    let few = c.requires.few in
+    let table = c.requires.table rank in
+    let found = c.value_at-value.ensures
+    ∙ table.values c.at-a.result.element c.at-b.result.element c.at-c.result.element a b d in
+    let image = c.times-image.ensures
+    ∙ ap (λ s. product s c.value_at-value.result)
+    (c.times.ensures ∙ ap (λ s. product s c.times-turn.result) c.sign-in-loop-i.ensures
+    ∙ ap (product (sign_of c.at-a.result))
+    (c.times-turn.ensures ∙ ap (λ s. product s c.sign-in-loop-j.result) c.sign.ensures
+    ∙ ap (product (sign_of c.at-b.result)) c.sign-in-loop-j.ensures))
+    ∙ image_triple m w c.loop-i.i c.loop-j.j (length w) c.at-a.result c.at-b.result c.at-c.result
+    c.value_at-value.result c.at-a.ensures c.at-b.ensures qc found in
+    let own = c.value_at.ensures
+    ∙ table.values c.loop-i.i c.loop-j.j c.len-last.result (i_low, omega (arith, i_high, jk, few))
+    (omega (arith, j_low), omega (arith, jk, few)) (omega (arith, some, size), omega (arith, few, size))
+    ∙ ap (λ k. value_of m (c.loop-i.i ∷ c.loop-j.j ∷ k ∷ [])) size in
+    triples_differ m w rank some c.loop-i.i c.loop-j.j c.times-image.result c.value_at.result i_low i_high jk image own
+    c.loop-i.invariant _ c.in-Less.ensures less_not_equal
 
 pub returns-in-Greater : goal.returns-in-Greater
 returns-in-Greater c =
     let m = c.args.chi.now in
     let w = c.args.beginning.now in
-    let k = length w in
-    let lt = small_place k m.rank c.loop-place.place c.len-last.result c.rank-rank.result c.choose-place-end.result
-    c.loop-place-test.true c.choose-place-end.ensures.value c.len-last.ensures.value c.rank-rank.ensures.value in
-    let here = set_here k m.elements m.rank c.loop-place.place c.elements-elements.result c.rank-rank.result
-    c.unrank_revlex-s.result.elements c.requires.few lt c.elements-elements.ensures.value c.rank-rank.ensures.value
-    c.unrank_revlex-s.ensures.elements in
-    sym (differs_at k m.rank (image_value w (value_of m)) (chi_of m) c.loop-place.place
-    c.unrank_revlex-s.result.elements c.image_sign.result c.at.result _ lt here c.image_sign.ensures
-    c.at.ensures.place c.loop-place.invariant c.in-Greater.ensures greater_not_equal)
+    let value = c.rank.ensures.value in
+    let test = c.if-rank-ne3.false in
+    let rank : m.rank ≡ 3 = omega (arith, value, test) in
+    let size = c.len-last.ensures.value in
+    let some = c.requires.some in
+    let j_low = c.loop-j.auto.j in
+    let j_high = c.loop-j-test.true in
+    let i_low = c.loop-i.auto.i in
+    let i_high = c.loop-i-test.true in
+    let jk : c.loop-j.j < length w = omega (arith, j_high, size) in
+    let a = entry_within m.elements w c.requires.begun c.loop-i.i c.at-a.result c.at-a.ensures i_low
+    (omega (arith, i_high, jk)) in
+    let b = entry_within m.elements w c.requires.begun c.loop-j.j c.at-b.result c.at-b.ensures (omega (arith, j_low))
+    (omega (arith, jk)) in
+    let qc : c.at-c.result ≡ signed_at w (length w) = c.at-c.ensures ∙ ap (signed_at w) size in
+    let d = entry_within m.elements w c.requires.begun (length w) c.at-c.result qc some (omega arith) in
+    let few = c.requires.few in
+    let table = c.requires.table rank in
+    let found = c.value_at-value.ensures
+    ∙ table.values c.at-a.result.element c.at-b.result.element c.at-c.result.element a b d in
+    let image = c.times-image.ensures
+    ∙ ap (λ s. product s c.value_at-value.result)
+    (c.times.ensures ∙ ap (λ s. product s c.times-turn.result) c.sign-in-loop-i.ensures
+    ∙ ap (product (sign_of c.at-a.result))
+    (c.times-turn.ensures ∙ ap (λ s. product s c.sign-in-loop-j.result) c.sign.ensures
+    ∙ ap (product (sign_of c.at-b.result)) c.sign-in-loop-j.ensures))
+    ∙ image_triple m w c.loop-i.i c.loop-j.j (length w) c.at-a.result c.at-b.result c.at-c.result
+    c.value_at-value.result c.at-a.ensures c.at-b.ensures qc found in
+    let own = c.value_at.ensures
+    ∙ table.values c.loop-i.i c.loop-j.j c.len-last.result (i_low, omega (arith, i_high, jk, few))
+    (omega (arith, j_low), omega (arith, jk, few)) (omega (arith, some, size), omega (arith, few, size))
+    ∙ ap (λ k. value_of m (c.loop-i.i ∷ c.loop-j.j ∷ k ∷ [])) size in
+    triples_differ m w rank some c.loop-i.i c.loop-j.j c.times-image.result c.value_at.result i_low i_high jk image own
+    c.loop-i.invariant _ c.in-Greater.ensures greater_not_equal
 
-pub loop-place-preserved : goal.loop-place-preserved
-loop-place-preserved c =
+pub loop-i-preserved : goal.loop-i-preserved
+loop-i-preserved c =
     let m = c.args.chi.now in
     let w = c.args.beginning.now in
-    let k = length w in
-    let lt = small_place k m.rank c.loop-place.place c.len-last.result c.rank-rank.result c.choose-place-end.result
-    c.loop-place-test.true c.choose-place-end.ensures.value c.len-last.ensures.value c.rank-rank.ensures.value in
-    let here = set_here k m.elements m.rank c.loop-place.place c.elements-elements.result c.rank-rank.result
-    c.unrank_revlex-s.result.elements c.requires.few lt c.elements-elements.ensures.value c.rank-rank.ensures.value
-    c.unrank_revlex-s.ensures.elements in
-    agrees_more k m.rank (image_value w (value_of m)) (chi_of m) c.loop-place.place
-    c.unrank_revlex-s.result.elements c.image_sign.result c.at.result lt here c.image_sign.ensures
-    c.at.ensures.place c.loop-place.invariant c.in-Equal.ensures
+    let value = c.rank.ensures.value in
+    let test = c.if-rank-ne3.false in
+    let rank : m.rank ≡ 3 = omega (arith, value, test) in
+    let size = c.len-last.ensures.value in
+    let some = c.requires.some in
+    let j_low = c.loop-j.auto.j in
+    let j_high = c.loop-j-test.true in
+    let i_low = c.loop-i.auto.i in
+    let i_high = c.loop-i-test.true in
+    let jk : c.loop-j.j < length w = omega (arith, j_high, size) in
+    let a = entry_within m.elements w c.requires.begun c.loop-i.i c.at-a.result c.at-a.ensures i_low
+    (omega (arith, i_high, jk)) in
+    let b = entry_within m.elements w c.requires.begun c.loop-j.j c.at-b.result c.at-b.ensures (omega (arith, j_low))
+    (omega (arith, jk)) in
+    let qc : c.at-c.result ≡ signed_at w (length w) = c.at-c.ensures ∙ ap (signed_at w) size in
+    let d = entry_within m.elements w c.requires.begun (length w) c.at-c.result qc some (omega arith) in
+    let few = c.requires.few in
+    let table = c.requires.table rank in
+    let found = c.value_at-value.ensures
+    ∙ table.values c.at-a.result.element c.at-b.result.element c.at-c.result.element a b d in
+    let image = c.times-image.ensures
+    ∙ ap (λ s. product s c.value_at-value.result)
+    (c.times.ensures ∙ ap (λ s. product s c.times-turn.result) c.sign-in-loop-i.ensures
+    ∙ ap (product (sign_of c.at-a.result))
+    (c.times-turn.ensures ∙ ap (λ s. product s c.sign-in-loop-j.result) c.sign.ensures
+    ∙ ap (product (sign_of c.at-b.result)) c.sign-in-loop-j.ensures))
+    ∙ image_triple m w c.loop-i.i c.loop-j.j (length w) c.at-a.result c.at-b.result c.at-c.result
+    c.value_at-value.result c.at-a.ensures c.at-b.ensures qc found in
+    let own = c.value_at.ensures
+    ∙ table.values c.loop-i.i c.loop-j.j c.len-last.result (i_low, omega (arith, i_high, jk, few))
+    (omega (arith, j_low), omega (arith, jk, few)) (omega (arith, some, size), omega (arith, few, size))
+    ∙ ap (λ k. value_of m (c.loop-i.i ∷ c.loop-j.j ∷ k ∷ [])) size in
+    triples_more m w rank some c.loop-i.i c.loop-j.j c.times-image.result c.value_at.result i_low i_high jk image own
+    c.loop-i.invariant c.in-Equal.ensures
+
+pub loop-j-preserved : goal.loop-j-preserved
+loop-j-preserved c =
+    let m = c.args.chi.now in
+    let w = c.args.beginning.now in
+    let value = c.rank.ensures.value in
+    let test = c.if-rank-ne3.false in
+    let rank : m.rank ≡ 3 = omega (arith, value, test) in
+    let some = c.requires.some in
+    let low = c.loop-j.auto.j in
+    let over = c.loop-i-test.false in
+    let end = c.loop-i.auto.i-end in
+    let one : 1 ≤ c.loop-j.j = omega (arith, low) in
+    let last = end one in
+    next_second m w rank some c.loop-i.i c.loop-j.j one (omega (arith, over, last)) c.loop-i.invariant
 
 pub returns : goal.returns
 returns c =
     let m = c.args.chi.now in
     let w = c.args.beginning.now in
-    let k = length w in
-    let end = c.choose-place-end.ensures.value ∙ ap (λ i. choose i c.rank-rank.result) c.len-last.ensures.value
-    ∙ ap (choose k) c.rank-rank.ensures.value in
-    let over = c.loop-place-test.false in
-    sym (agrees_on_all k m.rank (image_value w (value_of m)) (chi_of m) c.loop-place.place
-    (omega (arith, end, over)) c.loop-place.invariant)
+    let value = c.rank.ensures.value in
+    let test = c.if-rank-ne3.false in
+    let rank : m.rank ≡ 3 = omega (arith, value, test) in
+    let over = c.loop-j-test.false in
+    let size = c.len-last.ensures.value in
+    triples_all m w rank c.requires.some c.loop-j.j (omega (arith, over, size)) c.loop-j.invariant

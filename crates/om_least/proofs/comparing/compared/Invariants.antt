@@ -1,7 +1,9 @@
-use Rattle.std.proofs.Common.{◌≡◌, length, take}
-use Rattle.om_least.specs.Beginnings.{first_signs, first_image_signs}
+use Rattle.std.proofs.Common.{◌+◌, ◌-◌, length}
+use Rattle.om_least.proofs.TripleSteps.{AgreeTo, place_with}
 use Rattle.om_least.proofs.comparing.compared.Given as goal
 
-abbrev pub invariant-loop-place : goal.invariant-loop-place
-invariant-loop-place l =
-    take l.place (first_image_signs l.chi l.beginning) ≡ take l.place (first_signs l.chi (length l.beginning))
+abbrev pub invariant-loop-j : goal.invariant-loop-j
+invariant-loop-j l = AgreeTo l.chi l.beginning (place_with l.j (length l.beginning))
+
+abbrev pub invariant-loop-i : goal.invariant-loop-i
+invariant-loop-i l = AgreeTo l.chi l.beginning (place_with l.j (length l.beginning) + (l.i - 1))

@@ -34,7 +34,7 @@ is_least_behind-is_least_with-requires t c =
     let more = longer m w c.followed_by.result a c.followed_by.ensures in
     let r = comparable m w c.followed_by.result a c.followed_by.ensures l c.requires.begun c.requires.tied
     (low, omega (arith, value, test)) (λ h. false≢true (sym c.if-not-has.true ∙ c.has.ensures.1 h)) in
-    (omega (arith, d, more, l), (r.begun, (r.some, (r.few, r.tied))))
+    (omega (arith, d, more, l), (r.begun, (r.some, (r.few, (r.tied, c.requires.table)))))
 
 pub is_least_behind-returns-then-not-is_least_with : goal.is_least_behind-returns-then-not-is_least_with
 is_least_behind-returns-then-not-is_least_with t c =
@@ -63,7 +63,7 @@ is_least_behind-is_least_with-requires-then-not-has t c =
     let r = comparable m w c.followed_by-then-not-has.result a c.followed_by-then-not-has.ensures l c.requires.begun
     c.requires.tied (low, omega (arith, value, test))
     (λ h. false≢true (sym c.if-not-has.true ∙ c.has.ensures.1 h)) in
-    (omega (arith, d, more, l), (r.begun, (r.some, (r.few, r.tied))))
+    (omega (arith, d, more, l), (r.begun, (r.some, (r.few, (r.tied, c.requires.table)))))
 
 pub is_least_behind-returns-then-not-is_least_with-2 : goal.is_least_behind-returns-then-not-is_least_with-2
 is_least_behind-returns-then-not-is_least_with-2 t c =
@@ -123,7 +123,7 @@ is_least_with-is_least_behind-requires t c =
         c.requires.begun,
         (
           c.requires.few,
-          same_from_order (first_image_signs m w) (first_signs m (length w)) (sym c.in-Equal.ensures),
+          (same_from_order (first_image_signs m w) (first_signs m (length w)) (sym c.in-Equal.ensures), c.requires.table),
         ),
       ),
     )
