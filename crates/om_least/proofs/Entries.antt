@@ -1,9 +1,11 @@
 -- The search over signed permutations, entry by entry.
 --
+-- Main definitions: IsTried, IsComparable
 -- Main results: first signs before those of the map (not_least), behind them (passed_over) and the same to the end
--- (least_at_end); what holds with each next entry holds (least_by_entries), and the other way round (least_with).
-use Rattle.std.proofs.Common.{ℕ, suc, ◌≡◌, ◌+◌, ◌-◌, ◌<◌, ◌≤◌, Bool, true, false, List, [], ◌∷◌, ◌++◌, length, take, refl, sym}
-use Rattle.std.proofs.Common.{ap, subst, ◌∙◌, arith}
+-- (least_at_end); what holds with each next entry holds (least_by_entries), and the other way round (least_with); one
+-- more entry (comparable), and no entry (tied_at_start, nothing_listed).
+use Rattle.std.proofs.Common.{ℕ, suc, ◌≡◌, ◌+◌, ◌-◌, ◌<◌, ◌≤◌, Bool, true, false, List, [], ◌∷◌, ◌++◌, length, take}
+use Rattle.std.proofs.Common.{refl, sym, ap, subst, ◌∙◌, arith}
 use Rattle.std.specs.declared.cmp.Ordering.TheVariants.{Less, Greater}
 use Rattle.std.specs.Ordering.{ordering_then}
 use Rattle.std.proofs.lemmas.List.{length_push, take_all}

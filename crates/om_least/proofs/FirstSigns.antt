@@ -43,7 +43,8 @@ module _ (w : List SignedElement) (k : ℕ) where
       ≡ signs_product (turning (is_negated_at w)) xs
   signs_kept [] h = refl
   signs_kept (x ∷ xs) h =
-      ap (λ (a : SignedElement). product (turning (λ i. a.negated) x) (signs_product (turning (is_negated_at (take k w))) xs))
+      ap (λ (a : SignedElement). product (turning (λ i. a.negated) x)
+      (signs_product (turning (is_negated_at (take k w))) xs))
       (entry_kept x h.0.1)
       ∙ ap (product (turning (is_negated_at w) x)) (signs_kept xs h.1)
 

@@ -1,13 +1,14 @@
 -- Increasing lists of least maps.
 --
--- Main results: isomorphic members stand at one place (one_place), and a complete list has one member of each class
--- (one_member).
-use Rattle.std.proofs.Common.{ℕ, zero, suc, ◌≡◌, ◌+◌, ◌-◌, ◌<◌, List, length, get_or, sym, subst, ◌∙◌, inl, inr}
-use Rattle.std.proofs.Common.{arith, All}
+-- Main results: maps at later places come later (later), and one more behind the last (increasing_push); isomorphic
+-- members stand at one place (one_place); a map that is isomorphic to a member is so to one alone (of_one_member), and
+-- a complete list has one member of each class (one_member).
+use Rattle.std.proofs.Common.{ℕ, zero, suc, ◌≡◌, ◌+◌, ◌-◌, ◌<◌, ◌≤◌, List, [], ◌∷◌, ◌++◌, length, get_or, sym}
+use Rattle.std.proofs.Common.{ap, subst, ◌∙◌, inl, inr, arith, All}
 use Rattle.std.specs.List.{Contains}
 use Rattle.std.specs.Cmp.{tied_itself}
 use Rattle.std.proofs.lemmas.Bool.{cases_lt}
-use Rattle.std.proofs.lemmas.List.{get_or_default}
+use Rattle.std.proofs.lemmas.List.{get_or_default, length_push, get_or_append_left, get_or_push}
 use Rattle.om_signs.specs.OrderLaws.{lexicographic-total}
 use Rattle.om_chirotope.specs.Map.{SignMap, IsMap}
 use Rattle.om_symmetry.specs.Permutations.{AreIsomorphic}
@@ -23,7 +24,8 @@ not_before_itself m k e b =
     let t = tied_itself lexicographic-total (signs_in_reverse m) in
     less_not_equal (sym s ∙ t)
 
-later : (maps : List SignMap) → IsIncreasing maps → (d i j : ℕ) → j ≡ i + 1 + d → j < length maps
+-- each map comes before those at later places
+pub later : (maps : List SignMap) → IsIncreasing maps → (d i j : ℕ) → j ≡ i + 1 + d → j < length maps
     → IsBefore (map_at maps i) (map_at maps j)
 later maps up zero i j q lt =
     let e : i + 1 ≡ j = omega arith in
@@ -34,6 +36,26 @@ later maps up (suc d) i (suc j) q lt =
     lexicographic-total.trans (signs_in_reverse (map_at maps i)) (signs_in_reverse (map_at maps j))
     (signs_in_reverse (map_at maps (suc j))) (later maps up d i j (omega arith) (omega arith))
     (subst (λ k. IsBefore (map_at maps j) (map_at maps k)) e (up j (omega arith)))
+
+-- one more map, behind the last
+pub increasing_push : (maps : List SignMap) (m : SignMap) → IsIncreasing maps
+    → (1 ≤ length maps → IsBefore (map_at maps (length maps - 1)) m) → IsIncreasing (maps ++ m ∷ [])
+increasing_push maps m up h i lt =
+    let l = length_push maps m in
+    let few : i < length maps = omega arith in
+    let here : map_at (maps ++ m ∷ []) i ≡ map_at maps i = get_or_append_left maps (m ∷ []) no_map i few in
+    elim (cases_lt (i + 1) (length maps)) [
+      | inl more ↦
+          let next = get_or_append_left maps (m ∷ []) no_map (i + 1) more in
+          subst (IsBefore (map_at (maps ++ m ∷ []) i)) (sym next)
+          (subst (λ k. IsBefore k (map_at maps (i + 1))) (sym here) (up i more))
+      | inr end ↦
+          let last : length maps ≡ i + 1 = omega arith in
+          let back : length maps - 1 ≡ i = omega arith in
+          let next = get_or_push maps m no_map (i + 1) last in
+          subst (IsBefore (map_at (maps ++ m ∷ []) i)) (sym next)
+          (subst (λ k. IsBefore k m) (ap (map_at maps) back ∙ sym here) (h (omega arith)))
+    ]
 
 same_place : (maps : List SignMap) → IsIncreasing maps → (i j : ℕ) → i < length maps → j < length maps
     → map_at maps i ≡ map_at maps j → i ≡ j

@@ -1,6 +1,7 @@
 -- The order of two maps of one rank on as many elements.
 --
--- Main results: same_order
+-- Main results: the order over sets that are named otherwise (same_order); the three answers differ (less_not_equal,
+-- greater_not_equal, greater_not_less, equal_not_less).
 use Rattle.std.proofs.Common.{ℕ, ◌≡◌, map, ap, ◌∙◌}
 use Rattle.std.specs.declared.cmp.Ordering.TheVariants.{Less, Equal, Greater}
 use Rattle.om_signs.specs.Order.{lexicographic}

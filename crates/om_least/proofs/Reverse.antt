@@ -1,9 +1,11 @@
 -- Sets in reverse lexicographic order: those of the first elements come first.
 --
--- Main results: sets of the first elements begin the list of all (begins, first_set), rules that agree on sets give the
--- same signs in this order (same_in_reverse).
-use Rattle.std.proofs.Common.{ℕ, zero, suc, ◌≡◌, ◌+◌, ◌-◌, ◌<◌, ◌≤◌, List, [], ◌∷◌, ◌++◌, length, get_or, map, take, refl}
-use Rattle.std.proofs.Common.{sym, ap, subst, ◌∙◌, arith, append_assoc, append-nil}
+-- Main results: sets of the first elements begin the list of all (begins_within, first_set); rules that agree on sets
+-- give the same signs in this order (same_in_reverse); the sign at a place (sign_at), and how many there are
+-- (number_of_signs); two rules that differ at a set (differs_at), agree on one more (agrees_more) or on all
+-- (agrees_on_all).
+use Rattle.std.proofs.Common.{ℕ, zero, suc, ◌≡◌, ◌+◌, ◌-◌, ◌<◌, ◌≤◌, List, [], ◌∷◌, ◌++◌, length, get_or, map, take}
+use Rattle.std.proofs.Common.{refl, sym, ap, subst, ◌∙◌, arith, append_assoc, append-nil}
 use Rattle.std.proofs.lemmas.List.{length-map, get_or-map, get_or_append_left, ext_get_or, take_all}
 use Rattle.std.proofs.lemmas.List.{take_more_same}
 use Rattle.std.specs.declared.cmp.Ordering.{Ordering}

@@ -57,7 +57,8 @@ least_same m k whole lm lk (w, p, e) =
     let not_behind : IsBefore m j → ⊥ =
     (λ b. lj back.0 back.1 (subst (λ i. IsBefore i j) (sym back.2) b)) in
     let same = same_from_order (signs_in_reverse m) (signs_in_reverse j)
-    (tie (lexicographic (signs_in_reverse m) (signs_in_reverse j)) (lexicographic (signs_in_reverse j) (signs_in_reverse m))
+    (tie (lexicographic (signs_in_reverse m) (signs_in_reverse j))
+    (lexicographic (signs_in_reverse j) (signs_in_reverse m))
     (lexicographic-total.antisymm (signs_in_reverse m) (signs_in_reverse j)) not_behind not_before) in
     ap (with_signs m.rank m.elements)
     (same_signs m.rank m.elements m.signs j.signs whole (acted_whole m w whole) same) ∙ e

@@ -1,6 +1,7 @@
 -- Lists of signs in lexicographic order.
 --
--- Main results: lists that go on behind others of one length (append_order), and lists that differ at a place (decided).
+-- Main results: lists that go on behind others of one length (append_order), and lists that differ at a place
+-- (decided).
 use Rattle.std.proofs.Common.{ℕ, zero, suc, ◌≡◌, ◌<◌, List, [], ◌∷◌, ◌++◌, length, take, refl, sym, ap, ◌∙◌, arith}
 use Rattle.std.specs.declared.cmp.Ordering.{Ordering}
 use Rattle.std.specs.declared.cmp.Ordering.TheVariants.{Less, Equal, Greater}

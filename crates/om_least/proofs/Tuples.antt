@@ -1,6 +1,7 @@
 -- The elements of the first entries of a signed permutation.
 --
--- Main results: whether an element is among them (listed_at, not_listed), and the tuples of old elements (tuple_begun).
+-- Main results: whether an element is among them (listed_at, not_listed), what is at a place (entry_within), and the
+-- tuples of old elements (tuple_begun).
 use Rattle.std.proofs.Common.{ℕ, zero, suc, ◌≡◌, ◌<◌, ◌≤◌, List, [], ◌∷◌, length, get_or, map, take, sym, ap, subst}
 use Rattle.std.proofs.Common.{◌∙◌, arith}
 use Rattle.std.proofs.lemmas.List.{length-map, get_or-take, length-take-le}

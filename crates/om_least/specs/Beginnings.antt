@@ -1,7 +1,6 @@
 -- The first entries of signed permutations, and the signs of images that depend on them alone.
-use Rattle.std.specs.Prelude.{ℕ, ◌≡◌, ◌≤◌, List, length, map, take}
+use Rattle.std.specs.Prelude.{ℕ, ◌≡◌, List, length, map, take}
 use Rattle.om_signs.specs.declared.sign.Sign.{Sign}
-use Rattle.om_signs.specs.declared.limits.TheConstants.{MAX_PLACES}
 use Rattle.om_subsets.specs.Reverse.{revlex_subsets}
 use Rattle.om_laws.specs.Members.{IsDistinct}
 use Rattle.om_laws.specs.Sorting.{IsElement, Each}
@@ -27,8 +26,3 @@ first_image_signs m w = map (image_value w (value_of m)) (revlex_subsets (length
 abbrev pub IsLeastBehind : SignMap → List SignedElement → Type 0
 IsLeastBehind m w = (v : List SignedElement) → IsSignedPermutation m.elements v → take (length w) v ≡ w
     → IsBefore (acted v m) m → ⊥
-
--- the table has all its places, the first n of which are in use
-pub record IsTable (table : List SignedElement) (n : ℕ) : Type 0 where
-  pub few : n ≤ MAX_PLACES
-  pub whole : length table ≡ MAX_PLACES

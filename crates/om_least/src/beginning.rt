@@ -30,7 +30,7 @@ impl Model for Beginning {
 
     ghost Value = { List SignedElement };
 
-    ghost use Rattle.om_least.specs.Beginnings.{IsTable};
+    ghost use Rattle.om_symmetry.specs.Table.{IsTable};
 
     ghost view = { λ e. take e.len e.table };
 

@@ -8,7 +8,8 @@ use Rattle.om_least.specs.Beginnings.{IsLeastBehind, first_signs, first_image_si
 use Rattle.om_least.proofs.Entries.{IsTried, not_least, passed_over, least_at_end, least_with, least_by_entries}
 use Rattle.om_least.proofs.Entries.{comparable, longer}
 use Rattle.om_least.proofs.search.+walk.Goals as goal
-use Rattle.om_least.proofs.search.+walk.Goals.{is_least_behind-then-not-has+else-not-is_least_with+else-not-is_least_with-2, is_least_behind-else-not-has}
+use Rattle.om_least.proofs.search.+walk.Goals.{is_least_behind-else-not-has}
+use Rattle.om_least.proofs.search.+walk.Goals.{is_least_behind-then-not-has+else-not-is_least_with+else-not-is_least_with-2}
 
 pub is_least_behind-returns-then-len-elements : goal.is_least_behind-returns-then-len-elements
 is_least_behind-returns-then-len-elements t c =
@@ -117,13 +118,14 @@ pub is_least_with-is_least_behind-requires : goal.is_least_with-is_least_behind-
 is_least_with-is_least_behind-requires t c =
     let m = c.args.chi.now in
     let w = c.args.beginning.now in
-    let d = c.decreases in (
+    let d = c.decreases in
+    let tied = same_from_order (first_image_signs m w) (first_signs m (length w)) (sym c.in-Equal.ensures) in (
       omega (arith, d),
       (
         c.requires.begun,
         (
           c.requires.few,
-          (same_from_order (first_image_signs m w) (first_signs m (length w)) (sym c.in-Equal.ensures), c.requires.table),
+          (tied, c.requires.table),
         ),
       ),
     )
