@@ -12,7 +12,7 @@ use std::alloc::Global;
 
 /// The number of elements and the signs of one chirotope of each class of simple oriented matroids of rank 3 on 3 to 6
 /// elements: 1, 2, 4 and 17 classes, from `catalogue/realizable-8.claims.gz`.
-const CLASSES: [(u8, &str); 24] = [
+pub(crate) const CLASSES: [(u8, &str); 24] = [
     (3, "+"),
     (4, "+---"),
     (4, "+--0"),

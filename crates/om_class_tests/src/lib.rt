@@ -1,4 +1,4 @@
-//! The tests of the public calls of om_symmetry, om_label, om_least and om_covers.
+//! The tests of the public calls of om_symmetry, om_label, om_covers, om_least and om_levels.
 #![tactic(auto)]
 
 #[cfg(test)]
@@ -9,3 +9,5 @@ mod images;
 mod labels;
 #[cfg(test)]
 mod least;
+#[cfg(test)]
+mod stepping;

@@ -1,0 +1,148 @@
+-- The cover that the step finds, member by member.
+--
+-- Main results: none_covered and more_covered, the steps; all_covered, the end; complete_next.
+use Rattle.std.proofs.Common.{ℕ, List, Bool, ◌≡◌, ◌+◌, ◌<◌, ◌≤◌, ◌⊎◌, ◌∙◌, sym, ap, subst, inl, inr, length, get_or, ⊎_elim}
+use Rattle.std.proofs.Common.{All, true, false, replicate, arith}
+use Rattle.std.specs.List.{Contains}
+use Rattle.std.proofs.lemmas.Bool.{cases_lt, false≢true}
+use Rattle.std.proofs.lemmas.List.{get_or-replicate, get_or_past, length-replicate}
+use Rattle.std.proofs.lemmas.List.Elements.{All-contains, All-get_or}
+use Rattle.om_signs.specs.declared.sign.Sign.{Sign}
+use Rattle.om_chirotope.specs.Map.{SignMap}
+use Rattle.om_localize.specs.Extensions.{IsSignature}
+use Rattle.om_symmetry.specs.declared.signed_element.SignedElement.{SignedElement}
+use Rattle.om_symmetry.specs.Permutations.{IsSignedPermutation, acted}
+use Rattle.om_covers.specs.Classes.{IsSimpleChirotope, IsUniformChirotope, IsComplete}
+use Rattle.om_covers.specs.Covers.{IsSimpleHalf, IsUniformHalf, IsReached, IsCoverByLines}
+use Rattle.om_covers.specs.Growing.{grown}
+use Rattle.om_covers.proofs.Covers.{next_complete}
+use Rattle.om_covers.proofs.CoversByLines.{cover_from_lines}
+use Rattle.om_covers.proofs.SimpleSteps.{simple_step}
+use Rattle.om_covers.proofs.UniformSteps.{uniform_step}
+use Rattle.om_levels.specs.declared.family.Family.{Family}
+use Rattle.om_levels.specs.declared.family.Family.TheVariants.{Simple, Uniform}
+use Rattle.om_levels.specs.Families.{IsOfFamily, IsHalfOf}
+use Rattle.om_levels.specs.Levels.{IsChirotopeOfRank3, IsMemberAt, IsIsomorphicTo}
+use Rattle.om_levels.specs.Steps.{IsMetAt, ArePlaces}
+use Rattle.om_levels.proofs.Images.{same_member}
+
+-- an extension of a member of the first list is isomorphic to the member of the next one at the place
+pub record IsMetBy (T : List Sign → Type 0) (maps next : List SignMap) (place : ℕ) : Type 0 where
+  pub member : SignMap
+  pub listed : Contains maps member
+  pub at : IsMetAt T member next place
+
+-- the extensions of the first i members are found, and each place that is marked is met
+pub record IsCovered (T : List Sign → Type 0) (maps next : List SignMap) (i : ℕ) (marks : List Bool) : Type 0 where
+  pub as_many : length marks ≡ length next
+  pub taken : (place : ℕ) (c : SignMap) (signs : List Sign) → place < i → IsMemberAt maps place c
+      → IsSignature c signs → T signs → (p : ℕ) × IsIsomorphicTo next (grown c signs) p
+  pub met : (k : ℕ) → get_or marks k false ≡ true → IsMetBy T maps next k
+
+no_mark : (n k : ℕ) → get_or (replicate n false) k false ≡ false
+no_mark n k = elim (cases_lt k n) [
+  | inl lt ↦ get_or-replicate n k false false lt
+  | inr ge ↦
+      let s = length-replicate n false in
+      get_or_past (replicate n false) k false (omega arith)
+]
+
+module _ (T : List Sign → Type 0) (maps next : List SignMap) where
+  pub none_covered : (count : ℕ) (marks : List Bool) → count ≡ length next → marks ≡ replicate count false
+      → IsCovered T maps next 0 marks
+  none_covered count marks q e = record {
+    as_many = ap (λ (xs : List Bool). length xs) e ∙ length-replicate count false ∙ q;
+    taken = λ place c signs l at s t. absurd (omega arith);
+    met = λ k t. absurd (false≢true (sym (no_mark count k) ∙ sym (ap (λ xs. get_or xs k false) e) ∙ t));
+  }
+
+  -- the places are within the marks
+  pub within_marks : (i : ℕ) (marks : List Bool) (c : SignMap) (places : List ℕ) → IsCovered T maps next i marks
+      → ArePlaces T c next places → All (λ place. place < length marks) places
+  within_marks i marks c places covered are = λ k d l.
+      let b = (are.met k d l).found.at.below in
+      let s = covered.as_many in
+      omega arith
+
+  -- one member more
+  pub more_covered : (i : ℕ) (marks new : List Bool) (c : SignMap) (places : List ℕ) → IsCovered T maps next i marks
+      → ArePlaces T c next places → IsMemberAt maps i c → length new ≡ length marks
+      → ((k : ℕ) → get_or new k false ≡ true → (get_or marks k false ≡ true) ⊎ Contains places k)
+      → IsCovered T maps next (i + 1) new
+  more_covered i marks new c places covered are at len marked = record {
+    as_many = len ∙ covered.as_many;
+    taken = taken;
+    met = λ k t. ⊎_elim
+        (λ old. covered.met k old)
+        (λ found. record {
+          member = c;
+          listed = (i, at.below, at.same);
+          at = All-contains (IsMetAt T c next) places k are.met found;
+        })
+        (marked k t);
+  }
+    where
+      taken : (place : ℕ) (d : SignMap) (signs : List Sign) → place < i + 1 → IsMemberAt maps place d
+          → IsSignature d signs → T signs → (p : ℕ) × IsIsomorphicTo next (grown d signs) p
+      taken place d signs lt here s t = elim (cases_lt place i) [
+        | inl earlier ↦ covered.taken place d signs earlier here s t
+        | inr ge ↦
+            let e : place ≡ i = omega arith in
+            let q : c ≡ d = same_member maps i c d at (subst (λ j. IsMemberAt maps j d) e here) in
+            let found = are.taken signs (subst (λ m. IsSignature m signs) (sym q) s) t in
+            (found.0, subst (λ m. IsIsomorphicTo next (grown m signs) found.0) q found.1)
+      ]
+
+  -- all members, and all marks
+  pub all_covered : (n i : ℕ) (marks : List Bool) → All (IsChirotopeOfRank3 n) maps → IsCovered T maps next i marks
+      → length maps ≤ i → All (λ b. b ≡ true) marks → IsCoverByLines T n maps next
+  all_covered n i marks kinds covered over all = record { taken = taken; met = met }
+    where
+      size : (c : SignMap) → Contains maps c → c.elements ≡ n
+      size c listed = (All-contains (IsChirotopeOfRank3 n) maps c kinds listed).elements
+
+      taken : (c : SignMap) (signs : List Sign) → Contains maps c → IsSignature c signs → T signs
+          → (w : List SignedElement) × IsSignedPermutation (n + 1) w × Contains next (acted w (grown c signs))
+      taken c signs listed s t =
+          let lt = listed.1 in
+          let k = covered.taken listed.0 c signs (omega arith) (record { below = listed.1; same = listed.2 }) s t in
+          let w = k.1.isomorphic in (
+            w.0,
+            subst (λ j. IsSignedPermutation (j + 1) w.0) (size c listed) w.1,
+            subst (Contains next) (sym w.2) (k.0, k.1.at.below, k.1.at.same),
+          )
+
+      met : (d : SignMap) → Contains next d → IsReached T n maps d
+      met d listed =
+          let lt = listed.1 in
+          let s = covered.as_many in
+          let by = covered.met listed.0 (All-get_or (λ b. b ≡ true) marks listed.0 false (omega arith) all) in
+          let w = by.at.found.isomorphic in
+          record {
+            member = by.member;
+            signs = by.at.signs;
+            listed = by.listed;
+            signature = by.at.signature;
+            tried = by.at.tried;
+            by = w.0;
+            permutation = subst (λ j. IsSignedPermutation (j + 1) w.0) (size by.member by.listed) w.1;
+            image = w.2 ∙ same_member next listed.0 by.at.found.member d by.at.found.at
+                (record { below = listed.1; same = listed.2 });
+          }
+
+-- a cover of a complete list is complete
+pub complete_next : (family : Family) (n : ℕ) (maps next : List SignMap) → 3 ≤ n
+    → IsCoverByLines (IsHalfOf family n) n maps next → IsComplete (IsOfFamily family n) maps
+    → IsComplete (IsOfFamily family (n + 1)) next
+complete_next Simple n maps next large cover complete =
+    next_complete (IsSimpleChirotope n) (IsSimpleChirotope (n + 1)) (IsSimpleHalf n) n (simple_step n large) maps next
+    complete (cover_from_lines (IsSimpleHalf n) n maps next (record {
+      rank = λ c k. (All-contains (IsSimpleChirotope n) maps c complete.members k).rank;
+      elements = λ c k. (All-contains (IsSimpleChirotope n) maps c complete.members k).elements;
+    }) cover)
+complete_next Uniform n maps next large cover complete =
+    next_complete (IsUniformChirotope n) (IsUniformChirotope (n + 1)) IsUniformHalf n (uniform_step n large) maps next
+    complete (cover_from_lines IsUniformHalf n maps next (record {
+      rank = λ c k. (All-contains (IsUniformChirotope n) maps c complete.members k).rank;
+      elements = λ c k. (All-contains (IsUniformChirotope n) maps c complete.members k).elements;
+    }) cover)

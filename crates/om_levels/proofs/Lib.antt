@@ -1,0 +1,5 @@
+pub mod PackedSigns
+pub mod Rows
+pub mod Images
+pub mod Places
+pub mod Covering

@@ -1,0 +1,4 @@
+pub mod Packing
+pub mod Levels
+pub mod Families
+pub mod Steps
