@@ -74,7 +74,10 @@ fn class_left_out(rt: HostRuntime) {
     for (n, classes) in [(3u8, 2u8), (4, 4), (5, 17)] {
         for number in 0..classes {
             let verdict = verdict_of(&rt, rt.alloc(), Family::Simple, n, None, Some(number));
-            assert!(rt; matches!(verdict, Ok(Verdict::Missing { .. })), "after {n}, without {number}");
+            assert!(rt;
+                matches!(verdict, Ok(Verdict::Missing { .. })),
+                "after {n}, without {number}"
+            );
         }
     }
 }
@@ -87,7 +90,13 @@ fn class_unmet(rt: HostRuntime) {
 }
 
 /// Whether the member at a place has the signs of a text, and the chirotope and its negative are found there.
-fn is_kept(alloc: Global, level: &Level, table: &Table, place: usize, text: &str) -> Result<bool, SampleError>
+fn is_kept(
+    alloc: Global,
+    level: &Level,
+    table: &Table,
+    place: usize,
+    text: &str,
+) -> Result<bool, SampleError>
     requires { table.now.elements ≡ level.now.elements }
 {
     if place >= level.len() {
