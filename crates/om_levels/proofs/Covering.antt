@@ -1,6 +1,7 @@
 -- The cover that the step finds, member by member.
 --
--- Main results: none_covered and more_covered, the steps; all_covered, the end; complete_next.
+-- Main results: none_covered and more_covered, the steps; passed_over and all_covered, the end;
+-- complete_next.
 use Rattle.std.proofs.Common.{ℕ, List, Bool, ◌≡◌, ◌+◌, ◌<◌, ◌≤◌, ◌⊎◌, ◌∙◌, sym, ap, subst, inl, inr, length, get_or, ⊎_elim}
 use Rattle.std.proofs.Common.{All, true, false, replicate, arith}
 use Rattle.std.specs.List.{Contains}
@@ -23,7 +24,7 @@ use Rattle.om_levels.specs.declared.family.Family.{Family}
 use Rattle.om_levels.specs.declared.family.Family.TheVariants.{Simple, Uniform}
 use Rattle.om_levels.specs.Families.{IsOfFamily, IsHalfOf}
 use Rattle.om_levels.specs.Levels.{IsChirotopeOfRank3, IsMemberAt, IsIsomorphicTo}
-use Rattle.om_levels.specs.Steps.{IsMetAt, ArePlaces}
+use Rattle.om_levels.specs.Steps.{IsMetAt, IsAmong, ArePlaces, IsPassedOver}
 use Rattle.om_levels.proofs.Images.{same_member}
 
 -- an extension of a member of the first list is isomorphic to the member of the next one at the place
@@ -32,11 +33,17 @@ pub record IsMetBy (T : List Sign → Type 0) (maps next : List SignMap) (place 
   pub listed : Contains maps member
   pub at : IsMetAt T member next place
 
--- the extensions of the first i members are found, and each place that is marked is met
+-- the map is isomorphic to the member of the list at a place that is marked
+pub record IsMarkedMember (next : List SignMap) (marks : List Bool) (m : SignMap) : Type 0 where
+  pub place : ℕ
+  pub marked : get_or marks place false ≡ true
+  pub found : IsIsomorphicTo next m place
+
+-- the extensions of the first i members are found, at places that are marked, and each place that is marked is met
 pub record IsCovered (T : List Sign → Type 0) (maps next : List SignMap) (i : ℕ) (marks : List Bool) : Type 0 where
   pub as_many : length marks ≡ length next
   pub taken : (place : ℕ) (c : SignMap) (signs : List Sign) → place < i → IsMemberAt maps place c
-      → IsSignature c signs → T signs → (p : ℕ) × IsIsomorphicTo next (grown c signs) p
+      → IsSignature c signs → T signs → IsMarkedMember next marks (grown c signs)
   pub met : (k : ℕ) → get_or marks k false ≡ true → IsMetBy T maps next k
 
 no_mark : (n k : ℕ) → get_or (replicate n false) k false ≡ false
@@ -68,8 +75,9 @@ module _ (T : List Sign → Type 0) (maps next : List SignMap) where
   pub more_covered : (i : ℕ) (marks new : List Bool) (c : SignMap) (places : List ℕ) → IsCovered T maps next i marks
       → ArePlaces T c next places → IsMemberAt maps i c → length new ≡ length marks
       → ((k : ℕ) → get_or new k false ≡ true → (get_or marks k false ≡ true) ⊎ Contains places k)
-      → IsCovered T maps next (i + 1) new
-  more_covered i marks new c places covered are at len marked = record {
+      → ((k : ℕ) → get_or marks k false ≡ true → get_or new k false ≡ true)
+      → All (λ place. get_or new place false ≡ true) places → IsCovered T maps next (i + 1) new
+  more_covered i marks new c places covered are at len marked kept done = record {
     as_many = len ∙ covered.as_many;
     taken = taken;
     met = λ k t. ⊎_elim
@@ -82,16 +90,41 @@ module _ (T : List Sign → Type 0) (maps next : List SignMap) where
         (marked k t);
   }
     where
+      earlier : (m : SignMap) → IsMarkedMember next marks m → IsMarkedMember next new m
+      earlier m k = record { place = k.place; marked = kept k.place k.marked; found = k.found }
+
+      here : (m : SignMap) → IsAmong next places m → IsMarkedMember next new m
+      here m k = record {
+        place = k.place;
+        marked = All-contains (λ place. get_or new place false ≡ true) places k.place done k.listed;
+        found = k.found;
+      }
+
       taken : (place : ℕ) (d : SignMap) (signs : List Sign) → place < i + 1 → IsMemberAt maps place d
-          → IsSignature d signs → T signs → (p : ℕ) × IsIsomorphicTo next (grown d signs) p
-      taken place d signs lt here s t = elim (cases_lt place i) [
-        | inl earlier ↦ covered.taken place d signs earlier here s t
+          → IsSignature d signs → T signs → IsMarkedMember next new (grown d signs)
+      taken place d signs lt there s t = elim (cases_lt place i) [
+        | inl less ↦ earlier (grown d signs) (covered.taken place d signs less there s t)
         | inr ge ↦
             let e : place ≡ i = omega arith in
-            let q : c ≡ d = same_member maps i c d at (subst (λ j. IsMemberAt maps j d) e here) in
-            let found = are.taken signs (subst (λ m. IsSignature m signs) (sym q) s) t in
-            (found.0, subst (λ m. IsIsomorphicTo next (grown m signs) found.0) q found.1)
+            let q : c ≡ d = same_member maps i c d at (subst (λ j. IsMemberAt maps j d) e there) in
+            subst (λ m. IsMarkedMember next new (grown m signs)) q
+            (here (grown c signs) (are.taken signs (subst (λ m. IsSignature m signs) (sym q) s) t))
       ]
+
+  -- a place that isn't marked after all members
+  pub passed_over : (i place : ℕ) (marks : List Bool) → IsCovered T maps next i marks → length maps ≤ i
+      → place < length marks → get_or marks place false ≡ false → IsPassedOver T maps next place
+  passed_over i place marks covered over l unset = record {
+    below = (let s = covered.as_many in omega arith);
+    elsewhere = λ c signs listed s t.
+        let lt = listed.1 in
+        let k = covered.taken listed.0 c signs (omega arith) (record { below = listed.1; same = listed.2 }) s t in
+        record {
+          other = k.place;
+          differs = λ e. false≢true (sym unset ∙ sym (ap (λ p. get_or marks p false) e) ∙ k.marked);
+          found = k.found;
+        };
+  }
 
   -- all members, and all marks
   pub all_covered : (n i : ℕ) (marks : List Bool) → All (IsChirotopeOfRank3 n) maps → IsCovered T maps next i marks
@@ -106,10 +139,10 @@ module _ (T : List Sign → Type 0) (maps next : List SignMap) where
       taken c signs listed s t =
           let lt = listed.1 in
           let k = covered.taken listed.0 c signs (omega arith) (record { below = listed.1; same = listed.2 }) s t in
-          let w = k.1.isomorphic in (
+          let w = k.found.isomorphic in (
             w.0,
             subst (λ j. IsSignedPermutation (j + 1) w.0) (size c listed) w.1,
-            subst (Contains next) (sym w.2) (k.0, k.1.at.below, k.1.at.same),
+            subst (Contains next) (sym w.2) (k.place, k.found.at.below, k.found.at.same),
           )
 
       met : (d : SignMap) → Contains next d → IsReached T n maps d

@@ -3,9 +3,10 @@
 -- Main results: none_yet, skipped_line and found_line, the steps; all_lines, the end.
 use Rattle.std.proofs.Common.{ℕ, List, ◌≡◌, ◌+◌, ◌<◌, ◌≤◌, ◌∷◌, [], ◌++◌, ◌∙◌, sym, ap, subst, inl, inr, length, get_or}
 use Rattle.std.proofs.Common.{All, Bool, false, arith}
+use Rattle.std.specs.List.{Contains}
 use Rattle.std.proofs.lemmas.Bool.{cases_lt}
 use Rattle.std.proofs.lemmas.List.{get_or_read}
-use Rattle.std.proofs.lemmas.List.Elements.{All-nil, All-push, All-get_or}
+use Rattle.std.proofs.lemmas.List.Elements.{All-nil, All-push, All-get_or, Contains-push, Contains-append_left}
 use Rattle.om_signs.specs.declared.sign.Sign.{Sign}
 use Rattle.om_chirotope.specs.Map.{SignMap}
 use Rattle.om_localize.specs.Extensions.{IsSignature}
@@ -13,13 +14,12 @@ use Rattle.om_localize.specs.Listings.{AreFirst}
 use Rattle.om_covers.specs.Growing.{grown}
 use Rattle.om_covers.proofs.Listings.{whole_listing}
 use Rattle.om_levels.specs.Levels.{IsIsomorphicTo}
-use Rattle.om_levels.specs.Steps.{IsMetAt, ArePlaces}
+use Rattle.om_levels.specs.Steps.{IsMetAt, IsAmong, ArePlaces}
 
 -- each of the first i lines that is tried is met, and the places are of members that are met
 pub record ArePlacesBelow (T : List Sign → Type 0) (c : SignMap) (maps : List SignMap) (lines : List (List Sign))
     (i : ℕ) (places : List ℕ) : Type 0 where
-  pub taken : (j : ℕ) (d : List Sign) → j < i → T (get_or lines j d) → (place : ℕ)
-      × IsIsomorphicTo maps (grown c (get_or lines j d)) place
+  pub taken : (j : ℕ) (d : List Sign) → j < i → T (get_or lines j d) → IsAmong maps places (grown c (get_or lines j d))
   pub met : All (IsMetAt T c maps) places
 
 module _ (T : List Sign → Type 0) (c : SignMap) (maps : List SignMap) (lines : List (List Sign)) where
@@ -34,8 +34,8 @@ module _ (T : List Sign → Type 0) (c : SignMap) (maps : List SignMap) (lines :
       → (T signs → ⊥) → ArePlacesBelow T c maps lines i places → ArePlacesBelow T c maps lines (i + 1) places
   skipped_line i places signs l read not_tried below = record { taken = taken; met = below.met }
     where
-      taken : (j : ℕ) (d : List Sign) → j < i + 1 → T (get_or lines j d) → (place : ℕ)
-          × IsIsomorphicTo maps (grown c (get_or lines j d)) place
+      taken : (j : ℕ) (d : List Sign) → j < i + 1 → T (get_or lines j d)
+          → IsAmong maps places (grown c (get_or lines j d))
       taken j d lt t = elim (cases_lt j i) [
         | inl earlier ↦ below.taken j d earlier t
         | inr ge ↦
@@ -61,16 +61,25 @@ module _ (T : List Sign → Type 0) (c : SignMap) (maps : List SignMap) (lines :
       here : IsIsomorphicTo maps (grown c signs) place
       here = subst (λ m. IsIsomorphicTo maps m place) q found
 
-      taken : (j : ℕ) (d : List Sign) → j < i + 1 → T (get_or lines j d) → (p : ℕ)
-          × IsIsomorphicTo maps (grown c (get_or lines j d)) p
+      earlier : (j : ℕ) (d : List Sign) → IsAmong maps places (grown c (get_or lines j d))
+          → IsAmong maps new (grown c (get_or lines j d))
+      earlier j d k = record {
+        place = k.place;
+        listed = subst (λ ps. Contains ps k.place) (sym qn) (Contains-append_left places (place ∷ []) k.place k.listed);
+        found = k.found;
+      }
+
+      taken : (j : ℕ) (d : List Sign) → j < i + 1 → T (get_or lines j d) → IsAmong maps new (grown c (get_or lines j d))
       taken j d lt t = elim (cases_lt j i) [
-        | inl earlier ↦ below.taken j d earlier t
+        | inl less ↦ earlier j d (below.taken j d less t)
         | inr ge ↦
-            let e : j ≡ i = omega arith in (
-              place,
-              subst (λ s. IsIsomorphicTo maps (grown c s) place)
-                  (get_or_read lines i signs l read d ∙ ap (λ k. get_or lines k d) (sym e)) here,
-            )
+            let e : j ≡ i = omega arith in
+            record {
+              place = place;
+              listed = subst (λ ps. Contains ps place) (sym qn) (Contains-push places place);
+              found = subst (λ s. IsIsomorphicTo maps (grown c s) place)
+                  (get_or_read lines i signs l read d ∙ ap (λ k. get_or lines k d) (sym e)) here;
+            }
       ]
 
   -- after the last line of a whole listing
@@ -79,8 +88,8 @@ module _ (T : List Sign → Type 0) (c : SignMap) (maps : List SignMap) (lines :
   all_lines k i places first over below = record {
     taken = λ signs s t.
         let at = whole_listing (IsSignature c) k lines first signs s in
-        let found = below.taken at.0 signs (let l = at.1 in omega arith) (subst T (sym at.2) t) in
-        (found.0, subst (λ xs. IsIsomorphicTo maps (grown c xs) found.0) at.2 found.1);
+        subst (λ xs. IsAmong maps places (grown c xs)) at.2
+        (below.taken at.0 signs (let l = at.1 in omega arith) (subst T (sym at.2) t));
     met = below.met;
   }
 

@@ -1,7 +1,8 @@
 -- The step from a list on n elements to one on n + 1.
 --
 -- Reference: Björner, Las Vergnas, Sturmfels, White and Ziegler, Oriented Matroids, chapter 7.
-use Rattle.std.specs.Prelude.{ℕ, ◌<◌, List, length, All, true}
+use Rattle.std.specs.Prelude.{ℕ, ◌≢◌, ◌<◌, List, length, All, true}
+use Rattle.std.specs.List.{Contains}
 use Rattle.om_signs.specs.declared.sign.Sign.{Sign}
 use Rattle.om_signs.specs.declared.limits.TheConstants.{MAX_LINES}
 use Rattle.om_chirotope.specs.Map.{SignMap}
@@ -24,10 +25,16 @@ pub record IsMetAt (T : List Sign → Type 0) (c : SignMap) (maps : List SignMap
   pub tried : T signs
   pub found : IsIsomorphicTo maps (grown c signs) place
 
--- each extension of c that is tried is isomorphic to a member of the list, and the places are of such members
+-- the map is isomorphic to the member of the list at one of these places
+pub record IsAmong (maps : List SignMap) (places : List ℕ) (m : SignMap) : Type 0 where
+  pub place : ℕ
+  pub listed : Contains places place
+  pub found : IsIsomorphicTo maps m place
+
+-- each extension of c that is tried is isomorphic to the member of the list at one of the places, and each place is
+-- that of such a member
 pub record ArePlaces (T : List Sign → Type 0) (c : SignMap) (maps : List SignMap) (places : List ℕ) : Type 0 where
-  pub taken : (signs : List Sign) → IsSignature c signs → T signs → (place : ℕ)
-      × IsIsomorphicTo maps (grown c signs) place
+  pub taken : (signs : List Sign) → IsSignature c signs → T signs → IsAmong maps places (grown c signs)
   pub met : All (IsMetAt T c maps) places
 
 -- a signature of c of which the extension is tried
@@ -38,6 +45,18 @@ pub record IsTried (T : List Sign → Type 0) (c : SignMap) (signs : List Sign) 
 -- more signatures than a listing may have
 abbrev pub HasTooManySignatures : SignMap → Type 0
 HasTooManySignatures c = (lines : List (List Sign)) × AreFirst (IsSignature c) MAX_LINES lines true
+
+-- the map is isomorphic to a member of the list at another place
+pub record IsElsewhere (maps : List SignMap) (place : ℕ) (m : SignMap) : Type 0 where
+  pub other : ℕ
+  pub differs : other ≢ place
+  pub found : IsIsomorphicTo maps m other
+
+-- each extension of a member of the first list that is tried is isomorphic to a member of the next one at another place
+pub record IsPassedOver (T : List Sign → Type 0) (maps next : List SignMap) (place : ℕ) : Type 0 where
+  pub below : place < length next
+  pub elsewhere : (c : SignMap) (signs : List Sign) → Contains maps c → IsSignature c signs → T signs
+      → IsElsewhere next place (grown c signs)
 
 -- what is found about the extensions of one member
 abbrev pub IsReaching : Family → SignMap → List SignMap → Reaching → Type 0
@@ -51,6 +70,6 @@ IsVerdict family level next Complete =
     IsCoverByLines (IsHalfOf family level.elements) level.elements level.maps next.maps
 IsVerdict family level next (Missing member signs) = (c : SignMap) × IsMemberAt level.maps member c
     × IsTried (IsHalfOf family level.elements) c signs
-IsVerdict family level next (Unmet member) = member < length next.maps
+IsVerdict family level next (Unmet member) = IsPassedOver (IsHalfOf family level.elements) level.maps next.maps member
 IsVerdict family level next (TooMany member) = (c : SignMap) × IsMemberAt level.maps member c
     × HasTooManySignatures c

@@ -77,6 +77,8 @@ fn mark(marks: &mut Vec<bool>, places: &[usize])
     ensures len { length marks.new.items ≡ length marks.old.items }
     ensures marked { (k : ℕ) → slice_index_or marks.new.items k false ≡ true
         → (slice_index_or marks.old.items k false ≡ true) ⊎ Contains places.now k }
+    ensures kept { (k : ℕ) → slice_index_or marks.old.items k false ≡ true → slice_index_or marks.new.items k false ≡ true }
+    ensures set { All (λ place. slice_index_or marks.new.items place false ≡ true) places.now }
 {
     for place in places {
         marks[*place] = true;
@@ -87,6 +89,7 @@ fn mark(marks: &mut Vec<bool>, places: &[usize])
 fn first_unmarked(marks: &[bool]) -> Option<usize>
     ensures none { IsNone result → All (λ b. b ≡ true) marks.now }
     ensures some { IfSome result (λ k. k < length marks.now) }
+    ensures unset { IfSome result (λ k. slice_index_or marks.now k false ≡ false) }
 {
     for k in 0..marks.len() {
         if !marks[k] {

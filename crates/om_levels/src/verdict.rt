@@ -12,7 +12,7 @@ pub enum Verdict {
         /// The signature.
         signature: Signature,
     },
-    /// No extension that was tried is found to be this member of the next list.
+    /// All extensions are found in the next list, and none of them at this member.
     Unmet {
         /// The place of the member, counted from 0.
         member: usize,

@@ -1,8 +1,8 @@
-use Rattle.std.proofs.Common.{◌≡◌, ◌≤◌, All, IsNone, true, refl, sym, subst, arith}
+use Rattle.std.proofs.Common.{◌≡◌, ◌≤◌, All, IfSome, IsNone, true, false, ◌<◌, slice_index_or, length, refl, sym, subst, arith}
 use Rattle.om_covers.specs.Classes.{IsComplete}
 use Rattle.om_levels.specs.Families.{IsOfFamily, IsHalfOf}
 use Rattle.om_levels.specs.Steps.{ArePlaces, IsReaching}
-use Rattle.om_levels.proofs.Covering.{more_covered, all_covered, complete_next}
+use Rattle.om_levels.proofs.Covering.{more_covered, passed_over, all_covered, complete_next}
 use Rattle.om_levels.proofs.step.next_level.Goals as goal
 
 pub loop-member-preserved : goal.loop-member-preserved
@@ -20,6 +20,22 @@ loop-member-preserved g c =
     places in
     more_covered (IsHalfOf family n) maps next c.loop-member.member c.loop-member.met.items c.mark.new.marks.items chi
     c.as_slice.result.now c.loop-member.invariant are c.in_ok-chi.ensures.value c.mark.ensures.len c.mark.ensures.marked
+    c.mark.ensures.kept c.mark.ensures.set
+
+pub returns-in-Some-clause-verdict : goal.returns-in-Some-clause-verdict
+returns-in-Some-clause-verdict g c =
+    let v = c.args.level.now in
+    let marks = c.loop-member.met.items in
+    let k = c.in-Some.member in
+    let below : k < length marks = subst (λ xs. k < length xs) c.as_slice-2.ensures.value
+    (subst (λ r. IfSome r (λ j. j < length c.as_slice-2.result.now)) c.in-Some.is c.first_unmarked.ensures.some) in
+    let unset : slice_index_or marks k false ≡ false =
+    subst (λ xs. slice_index_or xs k false ≡ false) c.as_slice-2.ensures.value
+    (subst (λ r. IfSome r (λ j. slice_index_or c.as_slice-2.result.now j false ≡ false)) c.in-Some.is
+    c.first_unmarked.ensures.unset) in
+    passed_over (IsHalfOf c.args.family v.elements) v.maps c.args.next.now.maps c.loop-member.member k marks
+    c.loop-member.invariant (let e = c.len-member-end.ensures in let t = c.loop-member-test.false in omega arith) below
+    unset
 
 pub returns-clause-verdict : goal.returns-clause-verdict
 returns-clause-verdict g c =
