@@ -25,10 +25,10 @@ def code_lines(text):
     for line in text.splitlines():
         words = line.strip()
         # clauses end where the body begins; an import, a ghost item, and the clauses of a method without a body, by a
-        # semicolon
+        # semicolon; a ghost field, by a comma
         left_out = left_out and not words.startswith("{") or words.startswith(NOT_CALLS)
         yield "" if left_out or words.startswith(NOT_CODE) else line
-        left_out = left_out and not words.endswith(";")
+        left_out = left_out and not words.endswith((";", "},"))
 
 
 def functions(lines):
