@@ -28,6 +28,7 @@ pub fn is_least(chi: &Chirotope) -> bool
     let values = if chi.rank() == 3 {
         values_of(chi)
     } else {
+        // no value is looked up in the table
         [Sign::Zero; TRIPLES]
     };
     is_least_behind(chi, &values, &Beginning::empty())
