@@ -29,6 +29,17 @@ BROKEN = b"om 1\nchirotope 3 5\n+-++++++++\nend\n"
 CLIMBED = "24066a91ec21955c"  # the SHA-256 of the claims of climb for 30 documents begins so
 RUN = b"# all 9: 1 classes, SHA-256 1, by realize\n000000 1 1 0 0 0 0 1 1 0123456789abcdef\n"
 CUT = FOUR + b"om 1\nchirotope 3 4\n++++\n"
+# plays sbatch of Slurm: it does the tasks of an array job one after the other, the last one first
+SBATCH = """#!/usr/bin/env bash
+while [[ $1 == --* ]]; do
+  case $1 in --array=0-*) last=${1#--array=0-} ;; --output=*) log=${1#--output=} ;; esac
+  shift
+done
+for ((task = last; task >= 0; task--)); do
+  SLURM_ARRAY_TASK_ID=$task SLURM_ARRAY_TASK_COUNT=$((last + 1)) "$@" > "${log/%a/$task}" 2>&1 || code=1
+done
+exit "${code:-0}"
+"""
 
 # words, input, what its message says, whether nauty is needed
 BAD = [
@@ -332,11 +343,51 @@ def stopped_and_taken_over():
             compare("%s of a run that is taken over" % name, bytes_of(first, name), bytes_of(second, name))
         compare("the tally of a run with a tally", bytes_of(first, "all-5.tally"), bytes_of(third, "all-5.tally"))
         compare("claims of a run with a tally", False, os.path.exists(os.path.join(third, "all-5.claims")))
+        by_array_jobs(folder, first, done.stdout)
         other_options(first)
         stopped_by_hand(os.path.join(folder, "fourth"))
     for words in (["classify"], ["classify", "x", "some", "5"], ["classify", "x", "all", "2"]):
         done = run(words)
         compare(" ".join(words), (2, b"", True), (done.returncode, done.stdout, done.stderr.startswith(b"classify: ")))
+
+
+def by_array_jobs(folder, first, tables):
+    """Array jobs come to the same bytes, with more tasks than blocks too and with fewer. A task that fails is said,
+    and leaves no result; the same command goes on."""
+    place = os.path.join(folder, "bin")
+    os.mkdir(place)
+    with open(os.path.join(place, "sbatch"), "w") as file:
+        file.write(SBATCH)
+    os.chmod(file.name, 0o755)
+    jobs = {"PATH": place + os.pathsep + os.environ["PATH"], "ARRAY": "3", "OM_EACH": "/bin/false"}
+    fifth = os.path.join(folder, "fifth")
+    done = run(["classify", fifth, "all", "5"], environment=jobs)
+    compare("classify with a task that fails", (1, b"", True, []),
+            (done.returncode, done.stdout, b"a task of the array job failed" in done.stderr,
+             glob.glob(fifth + "/*/*.claims")))
+    del jobs["OM_EACH"]
+    compare("classify by array jobs", (0, tables), answer_of(run(["classify", fifth, "all", "5"], environment=jobs)))
+    for name in ("all-5.om", "all-5.claims", "all-5.tally"):
+        compare("%s by array jobs" % name, bytes_of(first, name), bytes_of(fifth, name))
+    blocks = os.path.join(folder, "blocks")
+    os.mkdir(blocks)
+    for number in range(7):
+        with open(os.path.join(blocks, "%06d.om" % number), "w") as file:
+            file.write("%d\n" % number)
+    for tasks in 2, 9:
+        for task in range(tasks):
+            done = subprocess.run([os.path.join(HERE, "array-job"), blocks, "%d" % tasks, "cat {} {} > {.}.part"],
+                                  env=dict(os.environ, SLURM_ARRAY_TASK_ID="%d" % task,
+                                           SLURM_ARRAY_TASK_COUNT="%d" % tasks), capture_output=True)
+            compare("task %d of %d" % (task, tasks),
+                    (0, b"", {"%06d.%d" % (k, tasks) for k in range(7) if k % tasks <= task}),
+                    (done.returncode, done.stderr,
+                     {os.path.basename(path) for path in glob.glob(blocks + "/*.%d" % tasks)}))
+        compare("results of %d tasks" % tasks, [b"%d\n%d\n" % (k, k) for k in range(7)],
+                [bytes_of(blocks, "%06d.%d" % (k, tasks)) for k in range(7)])
+    for number, message in ("x", b"ARRAY isn't a number"), ("0", b"ARRAY isn't a number"):
+        done = run(["classify", fifth, "all", "5"], environment={"ARRAY": number})
+        compare("classify with ARRAY=%s" % number, (1, b"", True), (*answer_of(done), message in done.stderr))
 
 
 def other_options(folder):
