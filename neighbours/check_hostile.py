@@ -59,6 +59,7 @@ FILTERS = [
     ("extensions-to-om examples/uniform-3-4.om -", b"om 1\nextensions 4\n++++++\nend\n"),
     ("restore-names examples/uniform-3-4-named.om", b"mutations 1\n1,2,3\nend\n"),
     ("claim-to-coq", VECTORS), ("claim-to-coq", ENTRIES), ("surd-to-coq", SURD),
+    ("find-surd", SURD[: SURD.index(b"surd")]),
     ("claim-to-points", PLANE), ("claim-to-brackets", ENTRIES),
     ("brackets-to-claim examples/non-pappus.om", BRACKETS),
 ]

@@ -2,10 +2,11 @@
 """neighbours/check_irrational.py
 
 Asks whether the shipped theorems of irrational vectors (catalogue/irrational_*.v) are what surd-to-coq writes of their
-data, and surd-to-coq for its message on data that is wrong. Where Coq is installed, coqc has to accept these theorems,
-by the axioms of its real numbers alone, and to refuse each of many wrong variants: of the chirotope a sign, of the
-vectors a number, of the construction a line, and of what the filter computes a coefficient. The last line is
-'irrational: N passed, M failed'; the exit code is 1 if one failed.
+data, and surd-to-coq for its message on data that is wrong. find-surd has to find data of its own for their chirotopes
+and for another one, and none for others. Where Coq is installed, coqc has to accept these theorems, by the axioms of
+its real numbers alone, and to refuse each of many wrong variants: of the chirotope a sign, of the vectors a number, of
+the construction a line, and of what the filter computes a coefficient. The last line is 'irrational: N passed, M
+failed'; the exit code is 1 if one failed.
 """
 import glob
 import os
@@ -21,6 +22,22 @@ AXIOMS = ["ClassicalDedekindReals.sig_not_dec", "ClassicalDedekindReals.sig_fora
           "FunctionalExtensionality.functional_extensionality_dep"]
 HEAD = "From Coq Require Import Reals List Bool Arith ZArith.\nImport ListNotations.\nRequire Import general.\n"
 TALLY = {True: 0, False: 0}
+# Perles's configuration with a tenth element that is on no line of three; and points of a construction with one free
+# place that closes where the place is a root of 2
+TEN = """om 1
+chirotope 3 10
++----------------0----+-0-+0+----+------0--------0+-+-+-+--0-++-
+-0--0-+0-+---0--+-++-+-0++--0-+++++-+-+-+-+++-+-+-++++--
+end
+"""
+TWELVE = """om 1
+chirotope 3 12
+++0++++--+---0--++--++00---++++--++-------++-0------0++++0--+-+-
++----0+-----++---+-+-0+--++--+-+--+00+++++-++++++-+++-+-+--++--+
+0-+-++-++++++-++--------0-0-------++0-0----0---+--0----++-0----0
+--+++--+-++-++++--+++----0+-
+end
+"""
 
 
 def expect(what, found, wanted):
@@ -29,10 +46,14 @@ def expect(what, found, wanted):
         print("failed: %s\n--- wanted %r\n--- found  %r" % (what, wanted, found))
 
 
-def surd_to_coq(data):
-    """The exit code, the output and the message."""
-    ended = subprocess.run([os.path.join(HERE, "surd-to-coq")], input=data, capture_output=True, text=True)
+def ran(name, data):
+    """The exit code, the output and the message of a filter."""
+    ended = subprocess.run([os.path.join(HERE, name)], input=data, capture_output=True, text=True)
     return ended.returncode, ended.stdout, ended.stderr
+
+
+def surd_to_coq(data):
+    return ran("surd-to-coq", data)
 
 
 # ---- Data that the filter refuses: a text of the shipped data, what stands there instead, and what the message says
@@ -79,6 +100,41 @@ def look_at_refusals(data):
             expect("%r for %r: %s" % (new, old, said), found, (1, "", True, True, False))
     code, _, said = surd_to_coq("")
     expect("an empty input", (code, said), (1, "surd-to-coq: line 1: the input is empty\n"))
+
+
+# ---- Data that find-surd finds
+
+def document_in(text):
+    """The document of data or of an example."""
+    lines = [line for line in text.splitlines(True) if not line.startswith("#")]
+    return "".join(lines[: lines.index("end\n") + 1])
+
+
+def look_at_search(path, data):
+    """What is found for a chirotope, and for it and others in one stream; and nothing where a sign is another one, nor
+    where there are whole-number vectors, a certificate or a rank other than 3."""
+    document = document_in(data)
+    nothing = []
+    for name in "pappus", "non-pappus", "uniform-3-4":
+        with open(os.path.join(os.path.dirname(HERE), "examples", name + ".om")) as file:
+            nothing.append(document_in(file.read()))
+    nothing.append(document.replace("\n+", "\n-", 1))
+    code, found, said = ran("find-surd", "".join(nothing[:2] + [document] + nothing[2:] + [TEN, TWELVE]))
+    expect("documents without data: %s" % said, (code, re.findall("document ([0-9]+): no construction", said)),
+           (1, ["1", "2", "4", "5"]))
+    blocks = re.findall("om 1\n.*?\nend\nsurd .*?\nend\n", found, re.S)
+    expect("data of three documents", ("".join(blocks), [document_in(block) for block in blocks]),
+           (found, [document, TEN, TWELVE]))
+    expect("numbers under the root", [block.split("surd ")[1].split("\n")[0] for block in blocks], ["5", "5", "2"])
+    expect("find-surd on %s alone" % path, ran("find-surd", document), (0, blocks[0], ""))
+    code, output, said = ran("find-surd", document + "om 1\nchirotope 2 3\n+++\nend\n" + document)
+    expect("rank 2", (code, output, "document 2: the rank is 2, and not 3" in said), (1, blocks[0], True))
+    for block in blocks:
+        code, text, said = surd_to_coq(block)
+        expect("surd-to-coq on data that was found", (code, said), (0, ""))
+        if shutil.which("coqc"):
+            with tempfile.TemporaryDirectory() as folder:
+                expect("the theorems of data that was found", compiled(folder, "found.v", text)[0], True)
 
 
 # ---- Variants that coqc has to refuse
@@ -178,6 +234,7 @@ def main():
             text = file.read()
         expect("the file of %s" % path, surd_to_coq(data), (0, text, ""))
         look_at_refusals(data)
+        look_at_search(path, data)
         if shutil.which("coqc"):
             look_at_coq(path, data, text)
         else:
