@@ -8,6 +8,7 @@ on standard error and without a signal. The pieces of a stream have to be answer
 stream ends early, what was written has to be the first of these answers. The program prints a line for each kind of
 case, and last 'hostile: N runs, M failed'; the exit code is 1 if one failed.
 """
+import io
 import math
 import os
 import random
@@ -16,8 +17,8 @@ import subprocess
 import sys
 
 TOP = os.path.dirname(os.path.dirname(os.path.abspath(__file__)))
-sys.path.insert(0, os.path.join(TOP, "rows"))
-from pieces import pieces
+sys.path.insert(0, os.path.join(TOP, "neighbours"))
+from om import cut
 PROGRAM = os.path.abspath(sys.argv[1]) if len(sys.argv) > 1 else os.path.join(TOP, "crates", "om", "out", "om")
 EACH = os.path.abspath(sys.argv[2]) if len(sys.argv) > 2 else os.path.join(TOP, "crates", "om_each", "out", "om_each")
 LIMIT = 300  # seconds for a run; a busy machine takes a minute for the longest streams
@@ -200,18 +201,19 @@ def streams_that_break_off(tally, random_):
     stream = b"".join(b"# %d\n" % i + (UNIFORM if i % 3 else b"om 1\nchirotope 2 4\n+-++++\nend\n") for i in range(40))
     answers = [b"accepted\n" if i % 3 else b"refused relation 1,2,3 4\n" for i in range(40)]
     for _ in range(150):
-        cut = random_.randrange(len(stream))
-        whole = [closed for _, closed in pieces(stream[:cut])]
+        end = random_.randrange(len(stream))
+        whole = [closed for _, closed in cut(io.BytesIO(stream[:end]))]
         wanted = b"".join(answers[:sum(whole)])
-        ended = run(["accept"], stream[:cut], program=EACH)
-        tally.expect("a stream cut after %d bytes" % cut, ended, lambda code, out, err: code in (0, 1) and err == b""
+        ended = run(["accept"], stream[:end], program=EACH)
+        tally.expect("a stream cut after %d bytes" % end, ended, lambda code, out, err: code in (0, 1) and err == b""
                      and out.startswith(wanted) and out.count(b"\n") == len(whole))
         # what no line feed ends isn't a line yet where reading fails
-        wanted = b"".join(answers[:sum(closed for _, closed in pieces(stream[:stream.rfind(b"\n", 0, cut) + 1]))])
+        lines = io.BytesIO(stream[:stream.rfind(b"\n", 0, end) + 1])
+        wanted = b"".join(answers[:sum(closed for _, closed in cut(lines))])
         reading, writing = os.pipe()
         os.set_blocking(reading, False)
-        os.write(writing, stream[:cut])
-        tally.expect("a stream that can't be read after %d bytes" % cut, run(["accept"], stdin=reading, program=EACH),
+        os.write(writing, stream[:end])
+        tally.expect("a stream that can't be read after %d bytes" % end, run(["accept"], stdin=reading, program=EACH),
                      exactly(4, wanted))
         os.close(reading)
         os.close(writing)
@@ -290,7 +292,7 @@ def noisy_streams(tally, random_):
         parts = [random_.choice([random_.randbytes(random_.choice([1, 7, 100, 5000])), UNIFORM, b"\n", b"om 1\n",
                                  b"end\n", b"#", b" ", b"om"]) for _ in range(20)]
         data = b"".join(parts)
-        count = len(list(pieces(data)))
+        count = len(list(cut(io.BytesIO(data))))
         tally.expect("noise in a stream", run(["accept"], data, program=EACH), lambda code, out, err: code in (0, 1)
                      and err == b"" and out.count(b"\n") == count)
 
@@ -303,7 +305,7 @@ def changed_streams(tally, random_):
         for _ in range(random_.choice([0, 1, 3, 10])):
             change_bytes(data, random_, 3)
         words = random_.choice(COMMANDS)
-        alone = [run(words, piece) for piece, _ in pieces(bytes(data), 2 if words == ["check"] else 1)]
+        alone = [run(words, piece) for piece, _ in cut(io.BytesIO(data), 2 if words == ["check"] else 1)]
         ended = run(words, bytes(data), program=EACH)
         tally.expect("%s of a changed stream" % words, ended,
                      exactly(max((code for code, _, _ in alone), default=0), b"".join(out for _, out, _ in alone)))

@@ -1,13 +1,14 @@
 #!/usr/bin/env python3
 """bench/streams.py [COUNT [SEED]]
 
-Compares the built program `om_each` with a run of `om` for each piece (rows/pieces.py), on COUNT random streams
+Compares the built program `om_each` with a run of `om` for each piece (neighbours/om.py), on COUNT random streams
 (10,000 without the word) of good and bad documents and claims, comments, blank lines and lines that break off. Each
 stream is given whole, and then byte by byte: each byte is read before the next one is written. The program prints the
 streams that differ, and last 'streams: N streams of M pieces, K failed'; the exit code is 1 if one failed.
 bench/memory.py tries streams without memory.
 """
 import fcntl
+import io
 import os
 import random
 import subprocess
@@ -16,8 +17,8 @@ import termios
 import time
 
 TOP = os.path.dirname(os.path.dirname(os.path.abspath(__file__)))
-sys.path.insert(0, os.path.join(TOP, "rows"))
-from pieces import pieces
+sys.path.insert(0, os.path.join(TOP, "neighbours"))
+from om import pieces
 ONE, EACH = (os.path.join(TOP, "crates", name, "out", name) for name in ("om", "om_each"))
 DOCUMENTS = [
     b"chirotope 3 4\n++++\n", b"chirotope 3 4\n0000\n", b"chirotope 2 4\n+-++++\n", b"chirotope 2 4\n0+0+00\n",
@@ -78,7 +79,7 @@ def compare(count, seed):
     for _ in range(count):
         words, data = chance.choice(COMMANDS), stream(chance)
         wanted = (0, b"")
-        for piece, _ in pieces(data, 2 if words == ["check"] else 1):
+        for piece in pieces(io.BytesIO(data), 2 if words == ["check"] else 1):
             cut += 1
             key = (" ".join(words), piece)
             if key not in answers:

@@ -27,7 +27,7 @@ class Parent:
         columns = ["".join(column) for column in zip(*graphs.rows(n, signs))]
         self.parallel = set(columns) | {column.translate(graphs.NEGATIVE) for column in columns}
         if len(self.parallel) < 2 * n or "0" * len(pairs) in self.parallel:
-            raise shared.Refusal("document %d: it has a loop or parallel elements" % number)
+            raise shared.Refused("document %d: it has a loop or parallel elements" % number)
         self.zeros = [column.count("0") - (n - 1) for column in columns]
         # the values of n + 1 elements are picked from those of n and the signature
         old = {triple: k for k, triple in enumerate(shared.triples(n))}

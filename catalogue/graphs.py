@@ -76,6 +76,6 @@ def classes_of(n, lines):
                           input="".join(line + "\n" for line in lines).encode(), capture_output=True)
     canonical = done.stdout.split(b"\n")[:-1]
     if done.returncode or len(canonical) != len(lines):
-        raise shared.Refusal("labelg ended with code %d and %d of %d graphs" %
+        raise shared.Refused("labelg ended with code %d and %d of %d graphs" %
                              (done.returncode, len(canonical), len(lines)))
     return [hashlib.blake2b(line, digest_size=16).digest() for line in canonical]

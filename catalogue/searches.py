@@ -10,8 +10,7 @@ import sys
 import time
 
 import shared
-
-NEGATIVE = str.maketrans("+-", "-+")
+from graphs import NEGATIVE
 
 
 @functools.lru_cache(None)

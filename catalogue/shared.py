@@ -1,5 +1,5 @@
-"""What the programs of this folder share: they find `om_each`, read documents and claims, ask `om_each` over two
-pipes, and end well.
+"""What the programs of this folder share: they find `om_each`, read documents and claims by neighbours/documents.py,
+ask `om_each` over two pipes, and end well.
 
 A document that is read here is of version 1, a chirotope of rank 3. Python's standard library alone.
 """
@@ -12,12 +12,12 @@ import subprocess
 import sys
 import threading
 
-NAME = os.path.basename(sys.argv[0])
 TOP = os.path.dirname(os.path.dirname(os.path.abspath(__file__)))
-VERDICTS = (b"realizable", b"nonrealizable", b"undecided", b"limit")
-MOST = 20  # elements of a document
-NUMBERS = [b"%d" % n for n in range(3, MOST + 1)]
-OTHER_KINDS = (b"circuits", b"cocircuits", b"covectors", b"wiring", b"points")
+sys.path.insert(1, os.path.join(TOP, "neighbours"))
+
+from documents import VERDICTS, Document, Lines, Reader  # noqa: E402
+from filters import MAX_ELEMENTS, Refused, WrongWords, end, ready_streams  # noqa: E402
+
 CONVERT = ": `om-each convert chirotope` writes the chirotope of each document"
 ENDS = (b"end\n", b"more\n")  # the last line of a block
 LINE, LISTING, CLAIM = 0, 1, 2  # how many blocks an answer has: one of check, of extend, of decide
@@ -25,38 +25,26 @@ PIPE_SIZE = getattr(fcntl, "F_SETPIPE_SZ", 1031)
 LOT = 500  # documents that are asked for at once
 
 
-class Refusal(Exception):
-    """What is wrong, in words; the program ends with code 1 and this text."""
-
-
-class WrongWords(Refusal):
-    """The words behind the program's name aren't what it takes; it ends with code 2."""
-
-
 def run(main):
     """Runs a program to its end. What it wrote before a fault are whole documents, and it has no traceback."""
-    code, text = 0, ""
-    if sys.stderr is None:
-        sys.stderr = open(os.devnull, "w")  # print would put messages among the data
+    code, reason = 0, ""
     try:
-        for stream in 0, 1:
-            # a closed one is a fault, and one that doesn't wait would seem to end where it only pauses
-            os.set_blocking(stream, True)
+        ready_streams()
         try:
             main()
         finally:
             sys.stdout.flush()
-    except (Refusal, UnicodeDecodeError) as fault:
-        code, text = 2 if isinstance(fault, WrongWords) else 1, str(fault)
+    except (Refused, UnicodeDecodeError) as fault:
+        code, reason = 1, str(fault)
+    except WrongWords as fault:
+        code, reason = 2, str(fault)
     except BrokenPipeError:
-        code, text = 5, ""  # a reader that goes away, as head does, wants to hear no more
+        code = 5  # a reader that goes away, as head does, wants to hear no more
     except OSError as fault:
-        code, text = 5, "reading or writing failed: %s" % fault.strerror
+        code, reason = 5, "reading or writing failed: %s" % fault.strerror
     except KeyboardInterrupt:
-        code, text = 130, "interrupted"
-    if text:
-        print("%s: %s" % (NAME, text), file=sys.stderr, flush=True)
-    os._exit(code)  # what couldn't be written isn't tried again
+        code, reason = 130, "interrupted"
+    end(code, reason)
 
 
 def find(variable, places, advice):
@@ -64,7 +52,7 @@ def find(variable, places, advice):
     for place in [os.environ[variable]] if os.environ.get(variable) else places:
         if shutil.which(place):
             return place
-    raise Refusal(advice)
+    raise Refused(advice)
 
 
 def om_each():
@@ -87,10 +75,8 @@ def triples(n):
 
 
 def text_of(n, signs):
-    """A document in one string, in canonical form: its values stand in lines of 64."""
-    if len(signs) > 64:
-        signs = "\n".join(signs[k : k + 64] for k in range(0, len(signs), 64))
-    return "om 1\nchirotope 3 %d\n%s\nend\n" % (n, signs)
+    """The text of a document."""
+    return Document("chirotope", n, signs, 3).text()
 
 
 def vector_lines(vectors):
@@ -98,41 +84,43 @@ def vector_lines(vectors):
     return "".join(["vector %d %d %d\n" % tuple(vector) for vector in vectors]) + "end\n"
 
 
-def lines_with_words(source):
-    """The words of each line that has some, up to its comment. Between them stand blanks, tabs and carriage returns."""
-    for number, line in enumerate(source, 1):
-        text = line.split(b"#", 1)[0]
-        if b"\x0b" in text or b"\x0c" in text:
-            raise Refusal("line %d: a control character" % number)
-        words = text.split()
-        if words:
-            yield words
-
-
 def documents(source, claims=False):
     """The number of elements and the signs of each document, and with claims the words of the lines of its verdict
     block. An empty stream is refused."""
-    lines = lines_with_words(source)
-    following = next(lines, None)
-    number = 0
+    lines, count = Lines(source), 0
+    rest = iter(lines)
+    following = next(rest, None)
     while following is not None:
-        number += 1
-        n, signs = document(number, following, lines)
-        following = next(lines, None)
-        block = []
+        count += 1
+        document = chirotope(count, following, lines, rest)
+        following, block = next(rest, None), []
         if following is not None and len(following) == 1 and following[0] in VERDICTS:
             if not claims:
-                raise Refusal("document %d: a claim, where documents are read" % number)
-            while following != [b"end"]:
-                block.append([word.decode() for word in following])
-                following = next(lines, None)
-                if following is None or following[0] == b"om":
-                    raise Refusal("document %d: it breaks off in its block" % number)
-            following = next(lines, None)
-        yield (n, signs, block) if claims else (n, signs)
-    if not number:
+                raise Refused("document %d: a claim, where documents are read" % count)
+            while following != ["end"]:
+                block.append(following)
+                following = next(rest, None)
+                if following is None or following[0] == "om":
+                    raise Refused("document %d: it breaks off in its block" % count)
+            following = next(rest, None)
+        yield (document.elements, document.body, block) if claims else (document.elements, document.body)
+    if not count:
         # so a step before it that failed is seen at the end of a pipe, too
-        raise Refusal("the input has no document")
+        raise Refused("the input has no document")
+
+
+def chirotope(number, words, lines, rest):
+    """The document of this number, which begins with a line of these words and goes on with the rest of the lines."""
+    if words == ["om", "2"]:
+        raise Refused("document %d: it doesn't begin with the line `om 1`%s" % (number, CONVERT))
+    try:
+        document = Reader(words, rest).document()
+    except Refused as refused:
+        raise Refused("document %d, line %d: %s" % (number, lines.number, refused)) from None
+    if (document.kind, document.rank) != ("chirotope", 3):
+        raise Refused("document %d: `%s`, where chirotopes of rank 3 on at most %d elements are read%s" %
+                      (number, document.head(), MAX_ELEMENTS, "" if document.kind == "chirotope" else CONVERT))
+    return document
 
 
 def lots(items):
@@ -143,7 +131,7 @@ def lots(items):
             lot.append(next(items))
         except StopIteration:
             break
-        except (Refusal, OSError) as found:
+        except (Refused, OSError) as found:
             fault = found
         if len(lot) == LOT:
             yield lot
@@ -152,35 +140,6 @@ def lots(items):
         yield lot
     if fault:
         raise fault
-
-
-def document(number, first, lines):
-    """One document, whose first line has been read."""
-    if first != [b"om", b"1"]:
-        raise Refusal("document %d: it doesn't begin with the line `om 1`%s" %
-                      (number, CONVERT if first == [b"om", b"2"] else ""))
-    kind = next(lines, None)
-    if kind is None:
-        raise Refusal("document %d: it breaks off" % number)
-    if len(kind) != 3 or kind[:2] != [b"chirotope", b"3"] or kind[2] not in NUMBERS:
-        convert = CONVERT if kind[0] in OTHER_KINDS else ""
-        kind = b" ".join(kind).decode(errors="replace")
-        raise Refusal("document %d: `%s`, where chirotopes of rank 3 on at most %d elements are read%s" %
-                      (number, kind[:40], MOST, convert))
-    n, signs = int(kind[2]), b""
-    for words in lines:
-        if words == [b"end"]:
-            break
-        if words[0] == b"om":
-            raise Refusal("document %d: it breaks off" % number)
-        signs += b"".join(words)
-        if len(signs) > len(triples(n)):
-            break
-    else:
-        raise Refusal("document %d: it breaks off" % number)
-    if signs.strip(b"+-0") or len(signs) != len(triples(n)):
-        raise Refusal("document %d: its values aren't %d signs" % (number, len(triples(n))))
-    return n, signs.decode()
 
 
 class Conversation:
@@ -224,7 +183,7 @@ class Conversation:
     def line(self):
         line = self.process.stdout.readline()
         if not line.endswith(b"\n"):
-            raise Refusal("om_each ended with code %d" % self.process.wait())
+            raise Refused("om_each ended with code %d" % self.process.wait())
         return line
 
     def close(self):

@@ -1,4 +1,5 @@
-"""documents.py: the documents of om, as docs/FORMATS.md says them, for the filters of this folder.
+"""documents.py: the documents of om, as docs/FORMATS.md says them, for the filters of this folder, the programs of
+catalogue/ and those of pictures/.
 
 `documents` reads a stream of them, one after the other, in version 1 or 2, and yields each once its line `end` was
 read; a fault is named by its code in docs/FORMATS.md. `Document.text` writes one. Python's standard library alone.
@@ -49,7 +50,9 @@ class Lines:
 
     def __iter__(self):
         for self.number, line in numbered_lines(self.file):
-            words = WORD.findall(line.split("#", 1)[0])
+            text = line.split("#", 1)[0].rstrip("\r\n")
+            # the quicker `split` knows more blanks than a document has, but none of them is printable
+            words = text.split() if text.isprintable() else WORD.findall(text)
             if words:
                 yield words
         # the end of the input counts as the line after the last one
@@ -97,9 +100,11 @@ class Reader:
         self.elements, self.rank = numbers[-1], numbers[0] if self.kind == "chirotope" else 0
         check_shape(self.elements, self.rank)
         # the members of a list stand in a dictionary, which keeps their order and each of them once
-        self.body, self.limit = ({}, MAX_MEMBERS) if self.kind in LISTS else ([], MAX_BLOCKS)
-        if self.kind in ("chirotope", "points"):
-            self.limit = math.comb(self.elements, self.rank) if self.kind == "chirotope" else self.elements
+        self.body, self.limit = {}, MAX_MEMBERS
+        if self.kind == "chirotope":
+            self.body, self.limit = "", math.comb(self.elements, self.rank)
+        elif self.kind in ("wiring", "points"):
+            self.body, self.limit = [], MAX_BLOCKS if self.kind == "wiring" else self.elements
 
     def document(self):
         for words in self.rest:
@@ -143,8 +148,8 @@ class Reader:
         if self.kind in ("chirotope", "points") and len(self.body) < self.limit:
             raise Refused("few: %d values or points are wanted, and %d are there" % (self.limit, len(self.body)))
         if self.settings.get("order") == ["revlex"]:
-            self.body = [self.body[place] for place in reverse_places(self.rank, self.elements)]
-        return "".join(self.body) if self.kind == "chirotope" else list(self.body)
+            return "".join(self.body[place] for place in reverse_places(self.rank, self.elements))
+        return self.body if self.kind == "chirotope" else list(self.body)
 
 
 def point_of(words):

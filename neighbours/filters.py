@@ -1,8 +1,10 @@
 """filters.py: how the filters of this folder read, refuse and end.
 
 `run` writes the texts that a filter yields, each of them whole, and ends it as om ends: with 0; or with 1 where the
-input is refused, 2 for wrong words, 4 where reading failed, 5 where writing failed. Python's standard library alone.
+input is refused, 2 for wrong words, 4 where reading failed, 5 where writing failed. The programs of catalogue/ ask here
+for their streams and their end, too. Python's standard library alone.
 """
+import functools
 import math
 import os
 import re
@@ -28,9 +30,7 @@ def run(answers, usage):
         end(4, "reading failed: standard input is closed")
     if sys.stdout is None:
         end(5, "writing failed: standard output is closed")
-    for stream in sys.stdin, sys.stdout:
-        # another program may have left a stream that doesn't wait: where it only pauses it would seem to end
-        os.set_blocking(stream.fileno(), True)
+    ready_streams()
     texts, code, reason = answers(sys.argv[1:]), 0, ""
     while True:
         try:
@@ -54,6 +54,16 @@ def run(answers, usage):
             end(5, "" if isinstance(fault, BrokenPipeError) else "writing failed: %s" % fault.strerror)
 
 
+def ready_streams():
+    """Lets standard input and output wait: another program may have left one that doesn't, and where it only pauses it
+    would seem to end. Where standard error is closed, what is shown there goes nowhere: print would put it among the
+    data."""
+    if sys.stderr is None:
+        sys.stderr = open(os.devnull, "w")
+    for stream in 0, 1:
+        os.set_blocking(stream, True)
+
+
 def end(code, reason):
     """Ends the process. What couldn't be written is not written a second time, as the interpreter would."""
     try:
@@ -72,11 +82,8 @@ def say(reason):
 
 def numbered_lines(file):
     """The lines of a binary file, each with its number from 1, as texts: a byte is the character of its number."""
-    number = 0
-    while True:
-        line, number = file.readline(MAX_LINE + 1), number + 1
-        if not line:
-            return
+    read = functools.partial(file.readline, MAX_LINE + 1)
+    for number, line in enumerate(iter(read, b""), 1):
         if len(line) > MAX_LINE:
             raise Refused("line %d has more than %d bytes" % (number, MAX_LINE))
         yield number, line.decode("latin-1")

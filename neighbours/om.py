@@ -118,21 +118,28 @@ def words_of(line: bytes) -> List[bytes]:
     return [it for it in line.partition(b"#")[0].translate(blanks).split(b" ") if it]
 
 
-def pieces(lines: Iterable[bytes], ends: int = 1) -> Iterator[bytes]:
-    """The documents (claims, where ends is 2) of a stream of lines, cut as om_each cuts them."""
+def cut(lines: Iterable[bytes], ends: int = 1) -> Iterator[Tuple[bytes, bool]]:
+    """The documents (claims, where ends is 2) of a stream of lines, cut as om_each cuts them. With each stands whether
+    it has the line `end` that closes it."""
     piece, has_word, closed = b"", False, 0
     for line in lines:
         words = words_of(line)
         if has_word and words[:1] == [b"om"]:
-            yield piece
+            yield piece, False
             piece, has_word, closed = b"", False, 0
         piece, has_word = piece + line, has_word or bool(words)
         if words == [b"end"]:
             closed += 1
             if closed == ends:
-                yield piece
+                yield piece, True
                 piece, has_word, closed = b"", False, 0
     if has_word:
+        yield piece, False
+
+
+def pieces(lines: Iterable[bytes], ends: int = 1) -> Iterator[bytes]:
+    """The documents (claims, where ends is 2) of a stream of lines, cut as om_each cuts them."""
+    for piece, _ in cut(lines, ends):
         yield piece
 
 
@@ -142,12 +149,13 @@ def closed_piece(text: bytes, ends: int) -> Optional[bytes]:
     is_plain = text.startswith(b"om ") and text.endswith(b"\nend\n") and text.count(b"om") == 1
     if is_plain and text.count(b"end") == text.count(b"\nend\n") == ends:
         return text if len(text) <= MAX_INPUT else None
-    found = list(itertools.islice(pieces(io.BytesIO(text), ends), 2))
+    found = list(itertools.islice(cut(io.BytesIO(text), ends), 2))
     if len(found) != 1 or len(text) > MAX_INPUT:
         return None
-    if sum(words_of(it) == [b"end"] for it in found[0].split(b"\n")) != ends:
+    piece, is_closed = found[0]
+    if not is_closed:
         return None
-    return found[0] if found[0].endswith(b"\n") else found[0] + b"\n"
+    return piece if piece.endswith(b"\n") else piece + b"\n"
 
 
 class _Parts(NamedTuple):

@@ -17,6 +17,7 @@ named, both built programs do, and those of the second compiler if they are ther
 The last line is 'rows: N passed, M failed', and the exit code is 1 if one failed.
 """
 import glob
+import io
 import itertools
 import os
 import re
@@ -32,9 +33,12 @@ HERE = os.path.dirname(os.path.abspath(__file__))
 sys.path.insert(0, HERE)  # the checks of neighbours/ load this file, too
 
 import large  # noqa: E402
-from pieces import pieces  # noqa: E402
 
 TOP = os.path.dirname(HERE)
+sys.path.insert(1, os.path.join(TOP, "neighbours"))
+
+from om import cut  # noqa: E402
+
 BUILT = [os.path.join(TOP, "crates", name, "out", name) for name in ("om", "om_each")]
 STREAMS = os.path.join(HERE, "streams.txt")
 UNIFORM = b"om 1\nchirotope 3 4\n++++\nend\n"
@@ -381,8 +385,8 @@ def documents():
     for path in tables():
         for row in rows_of(path):
             if row.input is not None and row.input.endswith(b"\n"):
-                cut = list(pieces(row.input, 2 if row.words == ["check"] else 1))
-                if cut == [(row.input, True)]:
+                pieces = list(cut(io.BytesIO(row.input), 2 if row.words == ["check"] else 1))
+                if pieces == [(row.input, True)]:
                     found.setdefault(tuple(row.words), []).append(row)
     return found
 
@@ -420,7 +424,7 @@ def run_stream_faults(tally, program):
     for read in range(len(text) + 1):
         # where no line feed ends it, a line isn't whole
         whole = text[:text.rfind(b"\n", 0, read) + 1]
-        answered = sum(closed for _, closed in pieces(whole, 1))
+        answered = sum(closed for _, closed in cut(io.BytesIO(whole)))
         tally.expect("a read that fails behind %d bytes of a stream" % read,
                      run_cut_off(program, ["accept"], text[:read]), (4, b"".join(answers[:answered])))
     output = b"".join(answers)
