@@ -4,6 +4,7 @@ catalogue/ and those of pictures/.
 `documents` reads a stream of them, one after the other, in version 1 or 2, and yields each once its line `end` was
 read; a fault is named by its code in docs/FORMATS.md. `Document.text` writes one. Python's standard library alone.
 """
+import functools
 import itertools
 import math
 import re
@@ -50,9 +51,11 @@ class Lines:
 
     def __iter__(self):
         for self.number, line in numbered_lines(self.file):
-            text = line.split("#", 1)[0].rstrip("\r\n")
+            line = line.rstrip("\r\n")
+            if "#" in line:
+                line = line.split("#", 1)[0]
             # the quicker `split` knows more blanks than a document has, but none of them is printable
-            words = text.split() if text.isprintable() else WORD.findall(text)
+            words = line.split() if line.isprintable() else WORD.findall(line)
             if words:
                 yield words
         # the end of the input counts as the line after the last one
@@ -89,22 +92,9 @@ class Reader:
         words = next(rest, None)
         if words is None:
             raise Refused("missing: the input ends before the kind of the document")
-        self.kind, numbers = words[0], [number_of(word, 0, 999999) for word in words[1:]]
-        if self.kind not in KINDS:
-            raise Refused("kind: %s names no kind of document" % shown(self.kind))
-        if None in numbers or len(numbers) != 1 + (self.kind == "chirotope"):
-            raise Refused("header: `chirotope RANK ELEMENTS` is wanted, or another kind and ELEMENTS")
-        if self.kind not in kinds:
-            hint = " (`om convert chirotope` writes its chirotope)" if "chirotope" in kinds else ""
-            raise Refused("a document of %s is wanted, and this is one of %s%s" % (" or ".join(kinds), self.kind, hint))
-        self.elements, self.rank = numbers[-1], numbers[0] if self.kind == "chirotope" else 0
-        check_shape(self.elements, self.rank)
+        self.kind, self.elements, self.rank, self.limit = header(kinds, *words)
         # the members of a list stand in a dictionary, which keeps their order and each of them once
-        self.body, self.limit = {}, MAX_MEMBERS
-        if self.kind == "chirotope":
-            self.body, self.limit = "", math.comb(self.elements, self.rank)
-        elif self.kind in ("wiring", "points"):
-            self.body, self.limit = [], MAX_BLOCKS if self.kind == "wiring" else self.elements
+        self.body = "" if self.kind == "chirotope" else {} if self.kind in LISTS else []
 
     def document(self):
         for words in self.rest:
@@ -150,6 +140,24 @@ class Reader:
         if self.settings.get("order") == ["revlex"]:
             return "".join(self.body[place] for place in reverse_places(self.rank, self.elements))
         return self.body if self.kind == "chirotope" else list(self.body)
+
+
+@functools.lru_cache(None)
+def header(kinds, kind, *sizes):
+    """The kind, the elements and the rank that the second line of a document says, and how many values, members, blocks
+    or points there may be. The documents of a stream have few headers, so these are kept."""
+    numbers = [number_of(word, 0, 999999) for word in sizes]
+    if kind not in KINDS:
+        raise Refused("kind: %s names no kind of document" % shown(kind))
+    if None in numbers or len(numbers) != 1 + (kind == "chirotope"):
+        raise Refused("header: `chirotope RANK ELEMENTS` is wanted, or another kind and ELEMENTS")
+    if kind not in kinds:
+        hint = " (`om convert chirotope` writes its chirotope)" if "chirotope" in kinds else ""
+        raise Refused("a document of %s is wanted, and this is one of %s%s" % (" or ".join(kinds), kind, hint))
+    elements, rank = numbers[-1], numbers[0] if kind == "chirotope" else 0
+    check_shape(elements, rank)
+    limits = {"chirotope": math.comb(elements, rank), "wiring": MAX_BLOCKS, "points": elements}
+    return kind, elements, rank, limits.get(kind, MAX_MEMBERS)
 
 
 def point_of(words):
