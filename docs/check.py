@@ -4,8 +4,8 @@
 Looks up what the pages name: each link, each file, and each crate, call and definition that stands between backticks.
 A name is looked up in the sources of the repository; a file from the top, from the folder of the page, or by its name
 alone. Then it asks for the size of README, for the form and the size of the entries of docs/DECISIONS.md, and whether
-what is made stands as it is made now: the crates and layers of docs/ARCHITECTURE.md (layers.py), its picture
-(picture.py), and docs/INDEX.md (index.py). Last it asks whether each function that no crate shows is called
+what is made stands as it is made now: the crates and layers of docs/ARCHITECTURE.md and the counts of CONTRIBUTING.md
+(layers.py), the picture (picture.py), and docs/INDEX.md (index.py). Last it asks whether each function that no crate shows is called
 (uncalled.py). The last line is 'pages: N passed, M failed', and the exit code is 1 if one failed.
 """
 import os
@@ -26,6 +26,7 @@ NAME = re.compile(r"(?:[A-Za-z_]\w*::)*[A-Za-z_]\w*")
 OTHERS = {"neighbours/COQ.md", "neighbours/POLYMAKE.md", "neighbours/SAGE.md", "neighbours/TOPCOM.md"}
 MOST_LINES, MOST_WORDS = 150, 1500
 ARCHITECTURE, INDEX, DECISIONS = "docs/ARCHITECTURE.md", "docs/INDEX.md", "docs/DECISIONS.md"
+CONTRIBUTING = "CONTRIBUTING.md"
 MOST_OF_ENTRY = 600
 
 
@@ -102,6 +103,7 @@ def main():
             if not there:
                 print("%s: `%s` isn't there" % (page, name))
         for made, stands, command in ((ARCHITECTURE, layers.stands_in, "layers.py"),
+                                      (CONTRIBUTING, layers.counts_stand_in, "layers.py"),
                                       (INDEX, index.stands_in, "index.py")):
             if page == made:
                 passed += stands(text)

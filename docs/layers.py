@@ -4,9 +4,10 @@
 Prints what each crate holds, and the layers of the crates. What a crate holds is the first sentence of its README,
 and the groups are those below. The layers come from crates.txt: a crate is in the first layer above all crates that it
 uses, and after it come the crates that it uses, without those that another of them uses already. With --write both are
-put into docs/ARCHITECTURE.md, between the lines that begin and end them there. With --below the crates that are named
-are printed, and all crates below them, the lowest first. With --above the crates that stand on one of them are printed,
-the lowest first: a change of the named crates has these proved again.
+put into docs/ARCHITECTURE.md, between the lines that begin and end them there, and a table of how many crates stand on
+some of them into CONTRIBUTING.md. With --below the crates that are named are printed, and all crates below them, the
+lowest first. With --above the crates that stand on one of them are printed, the lowest first: a change of the named
+crates has these proved again.
 """
 import os
 import re
@@ -14,8 +15,12 @@ import sys
 
 TOP = os.path.dirname(os.path.dirname(os.path.abspath(__file__)))
 PAGE = os.path.join(TOP, "docs", "ARCHITECTURE.md")
+CONTRIBUTING = os.path.join(TOP, "CONTRIBUTING.md")
 BEGIN, END = "<!-- layers: made by docs/layers.py -->\n```\n", "```\n<!-- end of the layers -->\n"
 FIRST, LAST = "<!-- crates: made by docs/layers.py -->\n", "<!-- end of the crates -->\n"
+COUNTS, LAST_COUNT = "<!-- counts: made by docs/layers.py -->\n", "<!-- end of the counts -->\n"
+# The crates of which CONTRIBUTING says how many stand on them.
+COUNTED = "om_signs om_subsets om_chirotope om_lines om_localize om_simplex om_printing om_reply om_words om_program"
 
 # The crates by what they are about, each group from its lowest crate on.
 GROUPS = {
@@ -110,9 +115,20 @@ def above(names):
     return [it for it in with_lower(list(crates())) if it not in names and set(with_lower([it])) & set(names)]
 
 
+def counts():
+    """A table of some crates, each with the number of those that stand on it."""
+    rows = ["| `%s` | %d |\n" % (it, len(above([it]))) for it in COUNTED.split()]
+    return "| A change of | has so many crates proved again, of %d |\n|---|---|\n%s" % (len(crates()), "".join(rows))
+
+
 def stands_in(page):
     """Whether the page has these layers, and says of each crate what it holds."""
     return BEGIN + layers() + END in page and FIRST + groups() + LAST in page
+
+
+def counts_stand_in(page):
+    """Whether the page has these counts."""
+    return COUNTS + counts() + LAST_COUNT in page
 
 
 def put(page, begin, text, end):
@@ -120,7 +136,7 @@ def put(page, begin, text, end):
     head, found, rest = page.partition(begin)
     _, ended, tail = rest.partition(end)
     if not found or not ended:
-        sys.exit("layers.py: docs/ARCHITECTURE.md has no place for what follows %r" % begin)
+        sys.exit("layers.py: the page has no place for what follows %r" % begin)
     return head + begin + text + end + tail
 
 
@@ -134,11 +150,14 @@ def main():
     if sys.argv[1:] != ["--write"]:
         sys.exit(__doc__) if sys.argv[1:] else print(groups() + "\n" + layers(), end="")
         return
-    with open(PAGE, encoding="utf-8") as file:
-        page = file.read()
-    page = put(put(page, FIRST, groups(), LAST), BEGIN, layers(), END)
-    with open(PAGE, "w", encoding="utf-8") as file:
-        file.write(page)
+    for name, parts in ((PAGE, ((FIRST, groups(), LAST), (BEGIN, layers(), END))),
+                        (CONTRIBUTING, ((COUNTS, counts(), LAST_COUNT),))):
+        with open(name, encoding="utf-8") as file:
+            page = file.read()
+        for begin, text, end in parts:
+            page = put(page, begin, text, end)
+        with open(name, "w", encoding="utf-8") as file:
+            file.write(page)
 
 
 if __name__ == "__main__":
