@@ -58,6 +58,7 @@ module _ (E : List ℕ) (chi : List ℕ → Sign) (om : IsChirotope E chi) where
   pub around_orthogonal_along : (x y : List ℕ) → IsDistinct x → Orthogonal (around chi x) (along chi y)
   around_orthogonal_along x y d = orthogonal_from_balanced chi x (along chi y) d (om.relations x y)
 
+  -- each circuit of a chirotope is orthogonal to each of its cocircuits
   pub circuit_orthogonal : (X Y : SignVector) → IsCircuit E chi X → IsCocircuit chi Y → Orthogonal X Y
   circuit_orthogonal X Y c d =
       orthogonal_up_to_sign X (around chi c.tuple) Y c.same
@@ -108,6 +109,7 @@ module _ (E : List ℕ) (chi : List ℕ → Sign) (om : IsChirotope E chi) where
             (subst (λ l. IsNonzero (chi l)) (sym (append_assoc s.0 s.1 (e ∷ []))) nf),
       )
 
+  -- the bases of a chirotope have exchange
   pub exchange : HasExchange chi
   exchange u e v c nb nc out =
       let k = symmetric_exchange u e v c nb nc out in

@@ -85,6 +85,7 @@ module _ (Q : List ℕ → Type 0) (swapped : (u : List ℕ) (x y : ℕ) (v : Li
       let q2 = subst Q (sym (append_assoc p (c ∷ []) (a ∷ (u ++ v)))) q1 in
       subst Q (append_assoc p (c ∷ []) (u ++ a ∷ v)) (insert_later u (p ++ c ∷ []) a v q2)
 
+  -- the property passes from p ++ l to p ++ l', if l and l' are distinct and have the same members
   pub same_members : (l p l' : List ℕ) → IsDistinct l → IsDistinct l' → ((g : ℕ) → IsMember g l → IsMember g l')
       → ((g : ℕ) → IsMember g l' → IsMember g l) → Q (p ++ l) → Q (p ++ l')
   same_members [] p [] r r' to from q = q
@@ -111,6 +112,7 @@ before_sign_nonzero x (y ∷ ys) n =
     product_nonzero (order_sign x y) (before_sign x ys) (order_sign_nonzero x y (λ q. n (inl q)))
     (before_sign_nonzero x ys (λ m. n (inr m)))
 
+-- the sign of the permutation that sorts a list isn't zero, if the list has no repeat
 pub sort_sign_nonzero : (xs : List ℕ) → IsDistinct xs → IsNonzero (sort_sign xs)
 sort_sign_nonzero [] d = plus_nonzero
 sort_sign_nonzero (x ∷ xs) d =

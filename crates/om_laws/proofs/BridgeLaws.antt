@@ -30,9 +30,11 @@ use Rattle.om_laws.specs.Vectors as vectors
 pub at-as_list : (n : ℕ) (f : SignVector) (i : ℕ) → i < n → at (as_list n f) i ≡ f (suc i)
 at-as_list n f i l = get_or-map-range_with_len f 1 n i (suc i) Zero l (omega arith)
 
+-- the list of the signs at 1 to n has n signs
 pub length-as_list : (n : ℕ) (f : SignVector) → length (as_list n f) ≡ n
 length-as_list n f = length-map-range_with_len f 1 n
 
+-- a sign vector that is zero off 1 to n comes back from the list of its signs
 pub as_function-as_list : (n : ℕ) (f : SignVector) → IsSupportedOn (elements_to n) f → (e : ℕ)
     → as_function (as_list n f) e ≡ f e
 as_function-as_list n f s zero =
@@ -55,31 +57,37 @@ to_lists : (xs ys : List Sign) (s : Sign) → IsNonzero s → HasProduct (as_fun
 to_lists xs ys s n (zero, p) = absurd (n (sym p))
 to_lists xs ys s n (suc i, p) = (i, p)
 
+-- orthogonal lists of signs are orthogonal as functions
 pub orthogonal_functions : (xs ys : List Sign) → IsOrthogonal xs ys → Orthogonal (as_function xs) (as_function ys)
 orthogonal_functions xs ys (a, b) = record {
   minus = λ h. to_functions xs ys Minus (a (to_lists xs ys Plus (λ e. cc) h));
   plus = λ h. to_functions xs ys Plus (b (to_lists xs ys Minus (λ e. cc) h));
 }
 
+-- lists of signs that are orthogonal as functions are orthogonal
 pub orthogonal_lists : (xs ys : List Sign) → Orthogonal (as_function xs) (as_function ys) → IsOrthogonal xs ys
 orthogonal_lists xs ys o = (
   λ h. to_lists xs ys Minus (λ e. cc) (o.minus (to_functions xs ys Plus h)),
   λ h. to_lists xs ys Plus (λ e. cc) (o.plus (to_functions xs ys Minus h)),
 )
 
+-- the composition of two lists of signs is, as a function, that of the two functions
 pub as_function-compose : (xs ys : List Sign) (e : ℕ)
     → as_function (compose xs ys) e ≡ composition (as_function xs) (as_function ys) e
 as_function-compose xs ys zero = refl
 as_function-compose xs ys (suc i) = at-compose xs ys i
 
+-- a list of signs that conforms to another does so as a function
 pub conformal_functions : (xs ys : List Sign) → IsConformal xs ys
     → vectors.IsConformal (as_function xs) (as_function ys)
 conformal_functions xs ys h zero n = absurd (n refl)
 conformal_functions xs ys h (suc i) n = h i n
 
+-- a list of signs that conforms to another as a function does so as a list
 pub conformal_lists : (xs ys : List Sign) → vectors.IsConformal (as_function xs) (as_function ys) → IsConformal xs ys
 conformal_lists xs ys h i n = h (suc i) n
 
+-- a list of signs with all signs negated is, as a function, the negative
 pub as_function-negated : (xs : List Sign) (e : ℕ) → as_function (map opposite xs) e ≡ negated (as_function xs) e
 as_function-negated xs zero = refl
 as_function-negated xs (suc i) = at-map-opposite xs i
@@ -92,6 +100,7 @@ list_of_signs (x ∷ xs) low f h =
     ∙ ap (λ l. x ∷ l)
     (list_of_signs xs (low + 1) f (λ i. (let e : low + 1 + i ≡ low + suc i = omega arith in ap f e) ∙ h (suc i)))
 
+-- a list of n signs comes back from its function
 pub as_list-as_function : (n : ℕ) (xs : List Sign) → length xs ≡ n → as_list n (as_function xs) ≡ xs
 as_list-as_function n xs q = ap (λ k. as_list k (as_function xs)) (sym q)
     ∙ list_of_signs xs 1 (as_function xs) (λ i. (let e : 1 + i ≡ suc i = omega arith in ap (as_function xs) e))
@@ -146,6 +155,7 @@ relation_from_lists n r chi s a t i o = balanced_from_orthogonal chi s (along ch
     (orthogonal_from_lists n (around chi s) (along chi a)
     (λ e k. member_from_element n e (each_member (IsElement n) s t.within e (around_member chi s e k))) o)
 
+-- if the relation of an increasing tuple s and a list a holds, the lists around s and along a are orthogonal
 pub relation_to_lists : (n r : ℕ) (chi : List ℕ → Sign) (s a : List ℕ) → IsTuple n r s → IsIncreasing s
     → IsBalanced chi s (along chi a) → IsOrthogonal (as_list n (around chi s)) (as_list n (along chi a))
 relation_to_lists n r chi s a t i b =

@@ -98,9 +98,11 @@ range_bounds low (suc n) e (inl q) = (omega arith, omega arith)
 range_bounds low (suc n) e (inr m) = let k = range_bounds (low + 1) n e m in let a = k.0 in let b = k.1 in
     (omega arith, omega arith)
 
+-- each number from 1 to n is in the list of the elements 1 to n
 pub member_from_element : (n e : ℕ) → IsElement n e → IsMember e (elements_to n)
 member_from_element n e (a, b) = range_member 1 n e a (omega (arith, b))
 
+-- each member of the list of the elements 1 to n is a number from 1 to n
 pub element_from_member : (n e : ℕ) → IsMember e (elements_to n) → IsElement n e
 element_from_member n e m = let k = range_bounds 1 n e m in let a = k.0 in let b = k.1 in (a, omega (arith, b))
 
@@ -119,5 +121,6 @@ range_distinct low zero = tt
 range_distinct low (suc n) =
     ((λ m. let k = (range_bounds (low + 1) n low m).0 in omega (arith, k)), range_distinct (low + 1) n)
 
+-- the list of the elements 1 to n has no repeat
 pub elements_distinct : (n : ℕ) → IsDistinct (elements_to n)
 elements_distinct n = range_distinct 1 n

@@ -19,6 +19,7 @@ pub record IsComplement (E a b : List ℕ) : Type 0 where
   pub apart : (g : ℕ) → IsMember g b → IsMember g a → ⊥
   pub all : (g : ℕ) → IsMember g E → (IsMember g a → ⊥) → IsMember g b
 
+-- a number is a member of a list or not, as the test says
 pub is_member_cases : (e : ℕ) (xs : List ℕ) → (IsMember e xs × (is_member e xs ≡ true))
     ⊎ ((IsMember e xs → ⊥) × (is_member e xs ≡ false))
 is_member_cases e [] = inr ((λ m. m), refl)
@@ -30,6 +31,7 @@ is_member_cases e (x ∷ xs) = elim (cases_eq e x) [
   ]
 ]
 
+-- all entries of a list are among the elements or not, as the test says
 pub are_members_cases : (E a : List ℕ) → (AreAmong E a × (are_members E a ≡ true))
     ⊎ ((AreAmong E a → ⊥) × (are_members E a ≡ false))
 are_members_cases E [] = inl ((λ g m. absurd m), refl)
@@ -67,6 +69,7 @@ complement_distinct (e ∷ E) a d = elim (is_member_cases e a) [
   | inr k ↦ rw k.1 ((λ m. d.0 (complement_among E a e m).0), complement_distinct E a d.1)
 ]
 
+-- the complement of a in a list without repeats lists the elements off a, each once
 pub complement_is_complement : (E a : List ℕ) → IsDistinct E → IsComplement E a (complement E a)
 complement_is_complement E a d = record {
   distinct = complement_distinct E a d;

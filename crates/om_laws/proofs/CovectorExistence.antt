@@ -158,9 +158,11 @@ module _ (Ls : List SignVector) (E : List ℕ) (distinct : IsDistinct E)
   least_supported : (X : SignVector) → IsListed least_members X → IsSupportedOn E X
   least_supported X x = supported X (least_member_in X x).0
 
+  -- the map whose covectors are the members of a list that satisfies the covector axioms
   pub covectors_map : List ℕ → Sign
   covectors_map = list_map least_members E distinct least_supported least_axioms
 
+  -- the map whose covectors are the members of the list is a chirotope
   pub covectors_chirotope : IsChirotope E covectors_map
   unfolding covectors_map
   covectors_chirotope = list_chirotope least_members E distinct least_supported least_axioms

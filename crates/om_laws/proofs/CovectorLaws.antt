@@ -53,6 +53,7 @@ module _ (E : List ℕ) (C D : SignVector → Type 0) (pair : IsDualPair E C D) 
     λ m. let y = minimal_is_cocircuit E C D pair X m.member m.nonzero m.least in same X y.0 y.2 y.1,
   )
 
+-- a sign vector with the same signs as a circuit is a circuit
 pub circuit_same : (E : List ℕ) (chi : List ℕ → Sign) (X Y : SignVector) → ((e : ℕ) → X e ≡ Y e) → IsCircuit E chi Y
     → IsCircuit E chi X
 circuit_same E chi X Y q c = record {
@@ -63,6 +64,7 @@ circuit_same E chi X Y q c = record {
   same = same_trans X Y (around chi c.tuple) (inl q) c.same;
 }
 
+-- a sign vector with the same signs as a cocircuit is a cocircuit
 pub cocircuit_same : (chi : List ℕ → Sign) (X Y : SignVector) → ((e : ℕ) → X e ≡ Y e) → IsCocircuit chi Y
     → IsCocircuit chi X
 cocircuit_same chi X Y q c = record {

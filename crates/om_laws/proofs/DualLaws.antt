@@ -169,6 +169,7 @@ module _ (E : List ℕ) (de : IsDistinct E) (chi : List ℕ → Sign) (om : IsCh
             om.base.1),
       )
 
+  -- the dual of a chirotope on distinct elements is a chirotope
   pub dual_chirotope : IsChirotope E (dual_map E chi)
   dual_chirotope = record {
     alternating = dual_alternating E de chi om.alternating;
@@ -179,9 +180,11 @@ module _ (E : List ℕ) (de : IsDistinct E) (chi : List ℕ → Sign) (om : IsCh
 
   -- ---- covectors of the dual
 
+  -- each covector of the dual is a vector of the chirotope
   pub dual_covector_vector : (Y : SignVector) → IsCovector E (dual_map E chi) Y → IsVector E chi Y
   dual_covector_vector Y y = record { orthogonal = λ V v. y.orthogonal V (cocircuit_dual V v); supported = y.supported }
 
+  -- each vector of the chirotope is a covector of the dual
   pub vector_dual_covector : (Y : SignVector) → IsVector E chi Y → IsCovector E (dual_map E chi) Y
   vector_dual_covector Y y = record { orthogonal = λ V v. y.orthogonal V (dual_circuit V v); supported = y.supported }
 

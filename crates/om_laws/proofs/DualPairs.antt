@@ -79,6 +79,7 @@ dual_pair_swapped E C D p = record {
 -- ---- the pair of a chirotope
 
 module _ (E : List ℕ) (chi : List ℕ → Sign) (om : IsChirotope E chi) where
+  -- the circuits and the cocircuits of a chirotope are a dual pair
   pub dual_pair : IsDualPair E (IsCircuit E chi) (IsCocircuit chi)
   dual_pair = record {
     negated_circuit = circuit_negated E chi;
@@ -93,5 +94,6 @@ module _ (E : List ℕ) (chi : List ℕ → Sign) (om : IsChirotope E chi) where
     cocircuit_through_two = cocircuit_through_two E chi om;
   }
 
+  -- the cocircuits and the circuits of a chirotope, in this order, are a dual pair too
   pub swapped_pair : IsDualPair E (IsCocircuit chi) (IsCircuit E chi)
   swapped_pair = dual_pair_swapped E (IsCircuit E chi) (IsCocircuit chi) dual_pair

@@ -60,6 +60,7 @@ complement_above x (e ∷ E) a h = elim (is_member_cases e a) [
   | inr k ↦ rw k.1 (h.0, complement_above x E a h.1)
 ]
 
+-- the complement of any list in an increasing list increases
 pub complement_increasing : (E a : List ℕ) → IsIncreasing E → IsIncreasing (complement E a)
 complement_increasing [] a i = tt
 complement_increasing (e ∷ E) a i = elim (is_member_cases e a) [
@@ -72,6 +73,7 @@ complement_increasing (e ∷ E) a i = elim (is_member_cases e a) [
 pub tuple_among : (n k : ℕ) (a : List ℕ) → IsTuple n k a → AreAmong (elements_to n) a
 tuple_among n k a t g m = member_from_element n g (each_member (IsElement n) a t.within g m)
 
+-- the list of k successive numbers from low on increases
 pub range_increasing : (low k : ℕ) → IsIncreasing (range_with_len low k)
 range_increasing low zero = tt
 range_increasing low (suc zero) = tt
@@ -120,6 +122,7 @@ module _ (n r : ℕ) (f : List ℕ → Sign) (le : r ≤ n) where
     ]
   ]
 
+  -- if r ≤ n, the dual of a map of rank r on 1 to n is that of rank n - r which complements give on increasing lists
   pub dual_of_on_tuples : (a : List ℕ) → dual_map (elements_to n) (on_tuples n r f) a
       ≡ on_tuples n (n - r) (dual_on_increasing n f) a
   dual_of_on_tuples = alternating_equal (dual_map (elements_to n) (on_tuples n r f))
@@ -191,6 +194,7 @@ module _ (E : List ℕ) (de : IsDistinct E) (chi : List ℕ → Sign) (om : IsCh
       ∙ pairs_product t (complement E t) Plus (chi a))
       (zero_or_nonzero (chi a))
 
+  -- the dual of the dual of a chirotope whose bases have one size is the map or its negative
   pub dual_dual_up_to_sign : ((a : List ℕ) → dual_map E (dual_map E chi) a ≡ chi a)
       ⊎ ((a : List ℕ) → dual_map E (dual_map E chi) a ≡ opposite (chi a))
   dual_dual_up_to_sign = ⊎_elim

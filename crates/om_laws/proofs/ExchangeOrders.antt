@@ -50,6 +50,7 @@ module _ (chi : List ℕ → Sign) (alt : IsAlternating chi) where
       (λ a i c. by_sorting (IsExchanged a) (second_swapped a) (second_repeated a) (λ c j e na nc. ex a c e i j na nc) c)
       a
 
+  -- an alternating map with exchange for increasing lists has exchange of all bases
   pub exchange_in_order : HasIncreasingExchange chi → HasExchange chi
   exchange_in_order ex u e v c nb nc out =
       let k = exchanged ex (u ++ v) c e (nonzero_to_end chi alt u v e nb) nc in
@@ -61,6 +62,7 @@ module _ (chi : List ℕ → Sign) (alt : IsAlternating chi) where
         nh,
       )
 
+  -- an alternating map with exchange of all bases has it for increasing lists
   pub exchange_of_increasing : HasExchange chi → HasIncreasingExchange chi
   exchange_of_increasing ex a c e i j na nc =
       ⊎_elim (λ m. (e, m, na)) (λ n. let k = ex a e [] c na nc n in (k.0, k.1, k.3)) (member_or_not e c)

@@ -187,10 +187,12 @@ module _ (Ks : List SignVector) (E : List ℕ) (distinct_ground : IsDistinct E)
       × ((g : ℕ) → IsNonzero (Z g) → (Z g ≡ X g) ⊎ (Z g ≡ Y g))
   eliminated X Y x y e n q h o = axioms.elimination X Y x y (λ all. o (all h)) e (n, q)
 
+  -- the map whose cocircuits are the members of a list that satisfies the circuit axioms
   pub list_map : List ℕ → Sign
   list_map =
       (chirotope Ks E distinct_ground supported axioms.nonzero axioms.negation axioms.incomparable eliminated).map
 
+  -- the map whose cocircuits are the members of the list is a chirotope
   pub list_chirotope : IsChirotope E list_map
   unfolding list_map
   list_chirotope =
@@ -204,6 +206,7 @@ module _ (Ks : List SignVector) (E : List ℕ) (distinct_ground : IsDistinct E)
         base = (b.0, m.base_value b.0 b.1);
       }
 
+  -- each member of the list is a cocircuit of this map
   pub list_member_cocircuit : (X : SignVector) → IsListed Ks X → IsCocircuit list_map X
   unfolding list_map
   list_member_cocircuit X x =
@@ -211,6 +214,7 @@ module _ (Ks : List SignVector) (E : List ℕ) (distinct_ground : IsDistinct E)
       x in
       record { tuple = r.0; nonzero = axioms.nonzero X x; same = r.3 }
 
+  -- each cocircuit of this map is a member of the list
   pub list_cocircuit_member : (X : SignVector) → IsCocircuit list_map X → IsListed Ks X
   unfolding list_map
   list_cocircuit_member X c =

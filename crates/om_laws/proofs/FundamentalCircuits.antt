@@ -25,9 +25,11 @@ use Rattle.om_laws.proofs.TupleLaws.{last_repeat_zero, nonzero_distinct, nonzero
 module _ (E : List ℕ) (chi : List ℕ → Sign) (om : IsChirotope E chi) where
   -- ---- fundamental circuits and cocircuits
 
+  -- the vector along a list is zero at the elements of the list
   pub along_member_zero : (y : List ℕ) (g : ℕ) → IsMember g y → chi (y ++ g ∷ []) ≡ Zero
   along_member_zero y g m = last_repeat_zero chi om.alternating y g m
 
+  -- of a basis and an element off it, the vector around the basis with the element put last is the fundamental circuit
   pub fundamental_circuit : (t : List ℕ) (e : ℕ) → IsMember e E → IsNonzero (chi t) → (IsMember e t → ⊥)
       → IsFundamentalCircuit E chi t e (around chi (t ++ e ∷ []))
   fundamental_circuit t e ie n out =
@@ -57,6 +59,7 @@ module _ (E : List ℕ) (chi : List ℕ → Sign) (om : IsChirotope E chi) where
         );
       }
 
+  -- of a basis and one of its elements, the vector along the others is the fundamental cocircuit
   pub fundamental_cocircuit : (u v : List ℕ) (e : ℕ) → IsNonzero (chi (u ++ e ∷ v))
       → IsFundamentalCocircuit chi u e v (along chi (u ++ v))
   fundamental_cocircuit u v e n =

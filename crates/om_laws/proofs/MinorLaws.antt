@@ -33,12 +33,15 @@ use Rattle.om_laws.specs.Circuits.{IsCircuit}
 abbrev pub unskip : ℕ → ℕ → ℕ
 unskip e g = cond (nat_lt g e) g (g - 1)
 
+-- the numbering of the elements other than e leaves the numbers below e as they are
 pub skip_below : (e p : ℕ) → p < e → skip e p ≡ p
 skip_below e p l = rw (lt-ltb p e l) refl
 
+-- the numbering of the elements other than e moves the numbers from e on up by one
 pub skip_above : (e p : ℕ) → e ≤ p → skip e p ≡ p + 1
 skip_above e p l = rw (le-ltb p e l) refl
 
+-- the numbering of the elements other than e never gives e
 pub skip_other : (e p : ℕ) → skip e p ≢ e
 skip_other e p q = elim (cases_lt p e) [
   | inl l ↦ (let k = skip_below e p l in omega (arith, k, q, l))
@@ -115,6 +118,7 @@ module _ (n e : ℕ) (ie : IsElement (suc n) e) (chi : List ℕ → Sign) (om : 
   deletion_value t n off =
       subst (λ l. IsNonzero (chi l)) (sym (append-nil (map (skip e) (map (unskip e) t)) ∙ skip_map e t off)) n
 
+  -- the deletion of an element that some basis avoids is a chirotope
   pub deletion_chirotope : IsAvoided chi e → IsChirotope (elements_to n) (deletion e chi)
   deletion_chirotope b = pullback_chirotope (elements_to (suc n)) chi om (skip e) [] (elements_to n) inside
       (map (unskip e) b.0) (deletion_value b.0 b.1 b.2)
@@ -146,6 +150,7 @@ module _ (n e : ℕ) (ie : IsElement (suc n) e) (chi : List ℕ → Sign) (om : 
       subst (λ l. IsNonzero (chi (l ++ e ∷ []))) (sym (skip_map e (b.0 ++ b.1) d.1))
       (nonzero_to_end chi om.alternating b.0 b.1 e b.2)
 
+  -- the contraction of an element of some basis is a chirotope
   pub contraction_chirotope : IsInBase chi e → IsChirotope (elements_to n) (contraction e chi)
   contraction_chirotope b = pullback_chirotope (elements_to (suc n)) chi om (skip e) (e ∷ []) (elements_to n) inside
       (map (unskip e) (b.0 ++ b.1)) (contraction_value b)
@@ -225,11 +230,13 @@ module _ (n e : ℕ) (ie : IsElement (suc n) e) (chi : List ℕ → Sign) (om : 
   without_e psi X W q w = covector_same (elements_to n) (IsCircuit (elements_to n) psi) X (λ p. W (skip e p))
       (λ p. sym (q p)) w
 
+  -- if some basis avoids e, the covectors of the deletion are those of the map, without e
   pub deletion_both : IsAvoided chi e → (X : SignVector) → IsCovector (elements_to n) (deletion e chi) X
       ↔ IsCovectorWithout e (elements_to (suc n)) chi X
   deletion_both b X =
       (deletion_covector_from b X, λ w. without_e (deletion e chi) X w.0 w.2 (deletion_covector_to b w.0 w.1))
 
+  -- if e is in some basis, the covectors of the contraction are those of the map that are zero at e, without e
   pub contraction_both : IsInBase chi e → (X : SignVector) → IsCovector (elements_to n) (contraction e chi) X
       ↔ IsZeroCovectorWithout e (elements_to (suc n)) chi X
   contraction_both b X = (
@@ -237,11 +244,13 @@ module _ (n e : ℕ) (ie : IsElement (suc n) e) (chi : List ℕ → Sign) (om : 
     λ w. without_e (contraction e chi) X w.0 w.3 (contraction_covector_to b w.0 w.1 w.2),
   )
 
+  -- if e is a coloop, the covectors of the contraction are those of the map, without e
   pub coloop_both : IsColoop chi e → (X : SignVector) → IsCovector (elements_to n) (contraction e chi) X
       ↔ IsCovectorWithout e (elements_to (suc n)) chi X
   coloop_both co X =
       (coloop_covector_from co X, λ w. without_e (contraction e chi) X w.0 w.2 (coloop_covector_to co w.0 w.1))
 
+  -- if e is a loop, the covectors of the deletion are those of the map that are zero at e, without e
   pub loop_both : IsLoop chi e → (X : SignVector) → IsCovector (elements_to n) (deletion e chi) X
       ↔ IsZeroCovectorWithout e (elements_to (suc n)) chi X
   loop_both lo X = (loop_covector_from lo X, λ w. without_e (deletion e chi) X w.0 w.3 (loop_covector_to lo w.0 w.1))

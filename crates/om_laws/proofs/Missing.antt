@@ -23,6 +23,7 @@ missing_other y a x m = elim (member_or_not a y) as
     (λ d. ⊎_elim (λ m. missing y x) (λ n. suc (missing y x)) d ≡ suc (missing y x))
     [ inl k ↦ absurd (m k) | inr k ↦ refl ]
 
+-- an entry that is in t adds nothing to the number of entries that aren't in t
 pub missing_middle_member : (t u : List ℕ) (a : ℕ) (v : List ℕ) → IsMember a t
     → missing t (u ++ a ∷ v) ≡ missing t (u ++ v)
 missing_middle_member t [] a v m = missing_member t a v m
@@ -33,6 +34,7 @@ missing_middle_member t (c ∷ u) a v m =
     (λ k. missing_other t c (u ++ a ∷ v) k ∙ ap suc h ∙ sym (missing_other t c (u ++ v) k))
     (member_or_not c t)
 
+-- an entry that isn't in t adds one to the number of entries that aren't in t
 pub missing_middle_other : (t u : List ℕ) (a : ℕ) (v : List ℕ) → (IsMember a t → ⊥)
     → missing t (u ++ a ∷ v) ≡ suc (missing t (u ++ v))
 missing_middle_other t [] a v m = missing_other t a v m

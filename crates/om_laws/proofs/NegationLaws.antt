@@ -39,6 +39,7 @@ module _ (E : List ℕ) (chi : List ℕ → Sign) where
         | inr ne ↦ rw (ne_eqb e x ne) (ap opposite (go (λ t. chi (x ∷ t)) xs e))
       ]
 
+  -- each circuit of a map is a circuit of its negative
   pub negative_circuit : (X : SignVector) → IsCircuit E chi X → IsCircuit E (negative chi) X
   negative_circuit X c = record {
     tuple = c.tuple;
@@ -51,6 +52,7 @@ module _ (E : List ℕ) (chi : List ℕ → Sign) where
         c.same;
   }
 
+  -- each circuit of the negative of a map is a circuit of the map
   pub circuit_negative : (X : SignVector) → IsCircuit E (negative chi) X → IsCircuit E chi X
   circuit_negative X c = record {
     tuple = c.tuple;
@@ -63,6 +65,7 @@ module _ (E : List ℕ) (chi : List ℕ → Sign) where
         c.same;
   }
 
+  -- each cocircuit of a map is a cocircuit of its negative
   pub negative_cocircuit : (X : SignVector) → IsCocircuit chi X → IsCocircuit (negative chi) X
   negative_cocircuit X c = record {
     tuple = c.tuple;
@@ -73,6 +76,7 @@ module _ (E : List ℕ) (chi : List ℕ → Sign) where
         c.same;
   }
 
+  -- each cocircuit of the negative of a map is a cocircuit of the map
   pub cocircuit_negative : (X : SignVector) → IsCocircuit (negative chi) X → IsCocircuit chi X
   cocircuit_negative X c = record {
     tuple = c.tuple;
@@ -83,8 +87,10 @@ module _ (E : List ℕ) (chi : List ℕ → Sign) where
         c.same;
   }
 
+  -- each covector of a map is a covector of its negative
   pub negative_covector : (X : SignVector) → IsCovector E chi X → IsCovector E (negative chi) X
   negative_covector X x = record { orthogonal = λ V v. x.orthogonal V (circuit_negative V v); supported = x.supported }
 
+  -- each covector of the negative of a map is a covector of the map
   pub covector_negative : (X : SignVector) → IsCovector E (negative chi) X → IsCovector E chi X
   covector_negative X x = record { orthogonal = λ V v. x.orthogonal V (negative_circuit V v); supported = x.supported }

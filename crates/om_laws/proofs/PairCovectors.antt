@@ -69,6 +69,7 @@ module _ (E : List ℕ) (C D : SignVector → Type 0) (pair : IsDualPair E C D) 
             (zero_or_nonzero (X g)),
       )
 
+  -- a vector that is orthogonal to all cocircuits of a dual pair is orthogonal to all its covectors
   pub orthogonal_to_covectors : (Y : SignVector) → IsOrthogonalToAll D Y → IsOrthogonalToAll (IsCovectorOf E C) Y
   orthogonal_to_covectors Y o X x = orthogonal_from Y X (λ e t n h.
       let z = conformal_decomposition E C D pair X x.supported x.orthogonal e (right_nonzero (Y e) (X e) t h n) in
@@ -78,5 +79,6 @@ module _ (E : List ℕ) (C D : SignVector → Type 0) (pair : IsDualPair E C D) 
             (sym (z.3 k.0 (right_nonzero (Y k.0) (z.0 k.0) (opposite t) k.1 (opposite_nonzero t n)))) ∙ k.1,
       ))
 
+  -- a vector that is orthogonal to all covectors of a dual pair is orthogonal to all its cocircuits
   pub orthogonal_to_cocircuits : (Y : SignVector) → IsOrthogonalToAll (IsCovectorOf E C) Y → IsOrthogonalToAll D Y
   orthogonal_to_cocircuits Y o X d = o X (cocircuit_is_covector E C D pair X d)

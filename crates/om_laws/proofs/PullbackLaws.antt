@@ -31,6 +31,7 @@ use Rattle.om_laws.proofs.PulledBackMaps.{map_member, map_image, around_pullback
 module _ (E : List ℕ) (chi : List ℕ → Sign) (om : IsChirotope E chi) (rename : ℕ → ℕ) (q : List ℕ) (N : List ℕ)
     (inside : (p : ℕ) → IsMember (rename p) E → IsMember p N) (t : List ℕ)
     (nt : IsNonzero (pullback chi rename q t)) where
+  -- a pullback of a chirotope that isn't zero everywhere is a chirotope on N, if N has all that is renamed into E
   pub pullback_chirotope : IsChirotope N (pullback chi rename q)
   pullback_chirotope = record {
     alternating = pullback_alternating rename q chi om.alternating;

@@ -24,6 +24,7 @@ use Rattle.om_laws.proofs.RelationLaws.{no_term, around_zero}
 use Rattle.om_laws.proofs.TupleLaws.{moved_over, last_repeat_zero}
 
 module _ (rename : ℕ → ℕ) (q : List ℕ) where
+  -- the pullback of an alternating map alternates
   pub pullback_alternating : (chi : List ℕ → Sign) → IsAlternating chi → IsAlternating (pullback chi rename q)
   pullback_alternating chi alt x y [] bs = alt (rename x) (rename y) [] (map rename bs ++ q)
   pullback_alternating chi alt x y (c ∷ cs) bs =
@@ -110,11 +111,13 @@ module _ (rename : ℕ → ℕ) (q : List ℕ) where
         (negated_for_nonzero q Minus minus_nonzero) (rel (map rename s ++ q) (map rename a ++ q))),
   )
 
+  -- what a member of a list is renamed to is a member of the renamed list
   pub map_member : (e : ℕ) (t : List ℕ) → IsMember e t → IsMember (rename e) (map rename t)
   map_member e [] m = absurd m
   map_member e (x ∷ t) (inl k) = inl (ap rename k)
   map_member e (x ∷ t) (inr m) = inr (map_member e t m)
 
+  -- each member of a renamed list is what some member of the list is renamed to
   pub map_image : (g : ℕ) (t : List ℕ) → IsMember g (map rename t) → (e : ℕ) × IsMember e t × (g ≡ rename e)
   map_image g [] m = absurd m
   map_image g (x ∷ t) (inl k) = (x, inl refl, k)

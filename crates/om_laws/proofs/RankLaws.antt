@@ -37,6 +37,7 @@ module _ (n r : ℕ) (f : List ℕ → Sign) where
       (subst (λ l. IsNonzero (around (on_tuples n r f) l e)) p.2 k)) in
       subst (IsTuple n (suc r)) (sym p.2) (tuple_with n r p.0 p.1 e t (element_from_member n e (w e m)))
 
+  -- in rank r the circuits are, up to sign, the nonzero vectors around increasing tuples of r + 1 elements
   pub circuit_in_rank : (X : SignVector) → IsCircuit (elements_to n) (on_tuples n r f) X ↔ IsAroundTuple n r f X
   circuit_in_rank X =
       let both = circuit_both (elements_to n) (on_tuples n r f) (on_tuples_alternating n r f) X in (
@@ -58,6 +59,7 @@ module _ (n r : ℕ) (f : List ℕ → Sign) where
             }),
       )
 
+  -- in rank r the cocircuits are, up to sign, the nonzero vectors along increasing tuples of r - 1 elements
   pub cocircuit_in_rank : (X : SignVector) → IsCocircuit (on_tuples n r f) X ↔ IsAlongTuple n r f X
   cocircuit_in_rank X =
       let both = cocircuit_both (on_tuples n r f) (on_tuples_alternating n r f) X in (
@@ -73,6 +75,7 @@ module _ (n r : ℕ) (f : List ℕ → Sign) where
         λ k. both.1 (record { tuple = k.tuple; increasing = k.increasing; nonzero = k.nonzero; same = k.same }),
       )
 
+  -- in rank r, orthogonality to all circuits is that to the vectors around increasing tuples of r + 1 elements
   pub orthogonal_in_rank : (X : SignVector) → IsOrthogonalInRank n r f X
       ↔ IsOrthogonalToAll (IsCircuit (elements_to n) (on_tuples n r f)) X
   orthogonal_in_rank X =

@@ -166,6 +166,7 @@ around_zero chi [] e n = refl
 around_zero chi (x ∷ xs) e n =
     rw (ne_eqb e x (λ q. n (inl q)), around_zero (λ t. chi (x ∷ t)) xs e (λ m. n (inr m))) refl
 
+-- the vector around a list is nonzero only at elements of the list
 pub around_member : (chi : List ℕ → Sign) (xs : List ℕ) (e : ℕ) → IsNonzero (around chi xs e) → IsMember e xs
 around_member chi xs e n = elim (member_or_not e xs) [ inl m ↦ m | inr k ↦ absurd (n (around_zero chi xs e k)) ]
 

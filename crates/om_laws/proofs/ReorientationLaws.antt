@@ -45,6 +45,7 @@ module _ (set : ℕ → Bool) (E : List ℕ) (chi : List ℕ → Sign) where
           → product (product p c) (product a (product t u)) ≡ product (product s a) (product c u)
       lemma p c a t u s e = rw e (simp products)
 
+  -- the reorientation of a chirotope is a chirotope
   pub reoriented_chirotope : IsChirotope E chi → IsChirotope E (reoriented set chi)
   reoriented_chirotope om = record {
     alternating = reoriented_alternating om.alternating;
@@ -142,6 +143,7 @@ module _ (set : ℕ → Bool) (E : List ℕ) (chi : List ℕ → Sign) where
         (reoriented_cocircuit (turned set X) c),
   )
 
+  -- the covectors of a reorientation are the vectors that are covectors of the map once they are turned
   pub covector_turned : (X : SignVector) → IsCovector E (reoriented set chi) X ↔ IsCovector E chi (turned set X)
   covector_turned X = (
     covector_reoriented X,

@@ -50,5 +50,6 @@ module _ (E : List ℕ) (chi : List ℕ → Sign) (om : IsChirotope E chi) where
       (λ sub. within s t ns nt sub)
       (outside_or_within s t)
 
+  -- all bases of a chirotope have equally many elements
   pub one_size : (s t : List ℕ) → IsNonzero (chi s) → IsNonzero (chi t) → length s ≡ length t
   one_size s t ns nt = by_missing (missing t s) s t (omega arith) ns nt

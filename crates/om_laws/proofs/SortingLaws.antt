@@ -87,6 +87,7 @@ module _ (P : List ℕ → Type 0)
       let h1 : P ((cs ++ x ∷ []) ++ sorted xs) = rw append_assoc (move_in x (sorted xs) cs h) in
       rw append_assoc at (from_sorted xs (cs ++ x ∷ []) h1)
 
+  -- what is kept where neighbours change places, and holds of increasing lists and at equal neighbours, always holds
   pub by_sorting : ((x : ℕ) (cs bs : List ℕ) → P (cs ++ x ∷ x ∷ bs)) → ((xs : List ℕ) → IsIncreasing xs → P xs)
       → (xs : List ℕ) → P xs
   by_sorting repeat increasing xs = from_sorted xs [] (elim (increasing_or_repeat (sorted xs) (sorted_rising xs)) [
@@ -115,6 +116,7 @@ not_member x [] a m = m
 not_member x (y ∷ ys) a (inl q) = let l = a.0 in omega (arith, l, q)
 not_member x (y ∷ ys) a (inr m) = not_member x ys a.1 m
 
+-- an increasing list has no repeat
 pub increasing_distinct : (xs : List ℕ) → IsIncreasing xs → IsDistinct xs
 increasing_distinct [] i = tt
 increasing_distinct (x ∷ xs) i =
@@ -133,9 +135,11 @@ in_order (x ∷ xs) h =
     let f = insert_front x xs (increasing_head x xs h) in
     (ap (insert x) i.0 ∙ f.0, rw (f.1, i.1) refl)
 
+-- on an increasing list the value is the given one
 pub value_increasing : (f : List ℕ → Sign) (xs : List ℕ) → IsIncreasing xs → value f xs ≡ f xs
 value_increasing f xs h = let i = in_order xs h in rw (i.1, i.0) refl
 
+-- two alternating maps that agree on increasing lists agree on all lists
 pub alternating_equal : (chi psi : List ℕ → Sign) → IsAlternating chi → IsAlternating psi
     → ((xs : List ℕ) → IsIncreasing xs → chi xs ≡ psi xs) → (xs : List ℕ) → chi xs ≡ psi xs
 alternating_equal chi psi a b h = by_sorting (λ xs. chi xs ≡ psi xs)

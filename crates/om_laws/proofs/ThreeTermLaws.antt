@@ -206,6 +206,7 @@ module _ (chi : List ℕ → Sign) (alt : IsAlternating chi) (ex : HasExchange c
         step x y rx ry (λ y' r q. absurd (let z : suc (missing y' x) ≤ missing y x = q in omega (arith, z, c)))
     all (suc k) x y rx ry c = step x y rx ry (λ y' r q. all k x y' rx r (omega (arith, q, c)))
 
+    -- an alternating map with exchange of bases and the three-term relations has the relations of all lists
     pub three_term_relations : HasRelations chi
     three_term_relations = relations_by_sorting chi alt (λ s a is ia.
         balanced_from_orthogonal chi s (along chi a) (increasing_distinct s is)

@@ -174,6 +174,7 @@ module _ (chi : List ℕ → Sign) (alt : IsAlternating chi) where
     tuple_repeat x cs bs u v =
         rw (append_assoc cs (x ∷ x ∷ bs) (u ∷ v ∷ [])) (neighbours_zero chi alt x cs (bs ++ u ∷ v ∷ []))
 
+    -- an alternating map with the three-term relations of increasing tuples has those of all tuples
     pub three_terms_in_order : HasThreeTermRelations chi
     three_terms_in_order p = by_sorting (λ p. (a b c d : ℕ) → IsRelation p a b c d)
         (λ x y cs bs h a b c d. balanced_same _ _ _ _ _ _

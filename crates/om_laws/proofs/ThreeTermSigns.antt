@@ -28,6 +28,7 @@ none x y z s p q r (inl e) = p e
 none x y z s p q r (inr (inl e)) = q e
 none x y z s p q r (inr (inr e)) = r e
 
+-- three signs that include a plus exactly if they include a minus are balanced
 pub balanced_from : (x y z : Sign) → (IsOneOf x y z Plus → IsOneOf x y z Minus)
     → (IsOneOf x y z Minus → IsOneOf x y z Plus) → AreBalanced x y z
 balanced_from Minus Minus Minus f g = absurd (none Minus Minus Minus Plus (λ e. cc) (λ e. cc) (λ e. cc) (g (inl refl)))
@@ -149,5 +150,6 @@ module _ (chi : List ℕ → Sign) (alt : IsAlternating chi) (rel : HasRelations
       (λ h. to_terms k (behind chi p (b ∷ c ∷ d ∷ []) u Plus (λ e. cc) off (r.1 (before chi p (b ∷ c ∷ d ∷ []) u Minus
       (subst (HasTerm (λ t. chi (p ++ t)) (b ∷ c ∷ d ∷ []) u) (sym turned) (from_terms (opposite k) h))))))
 
+-- an alternating map with the relations of all lists has the three-term relations
 pub three_terms_of_relations : (chi : List ℕ → Sign) → IsAlternating chi → HasRelations chi → HasThreeTermRelations chi
 three_terms_of_relations chi alt rel p a b c d = three_terms chi alt rel p a b c d

@@ -43,6 +43,7 @@ insert_step x y z zs n e = grind arith
 insert_none : (x y : ℕ) → x ≢ y → insert x (insert y []) ≡ insert y (insert x [])
 insert_none x y n = grind arith
 
+-- two different numbers are inserted in either order with the same result
 pub insert_comm : (x y : ℕ) (zs : List ℕ) → x ≢ y → insert x (insert y zs) ≡ insert y (insert x zs)
 insert_comm x y [] n = insert_none x y n
 insert_comm x y (z ∷ zs) n = insert_step x y z zs n (insert_comm x y zs n)
@@ -57,6 +58,7 @@ sort_sign_repeat x cs bs = own_opposite _ (sort_sign_swap x x cs bs)
 value_repeat : (f : List ℕ → Sign) (x : ℕ) (cs bs : List ℕ) → value f (cs ++ x ∷ x ∷ bs) ≡ Zero
 value_repeat f x cs bs = rw (sort_sign_repeat x cs bs) refl
 
+-- the value on all lists, of a map that is given on increasing lists, alternates
 pub value_alternating : (f : List ℕ → Sign) → IsAlternating (value f)
 value_alternating f x y cs bs = elim (cases_eq x y) [
   | inl e ↦ rw e (value_repeat f y cs bs ∙ ap opposite (sym (value_repeat f y cs bs)))
@@ -65,6 +67,7 @@ value_alternating f x y cs bs = elim (cases_eq x y) [
 ]
 
 module _ (chi : List ℕ → Sign) (alt : IsAlternating chi) where
+  -- an alternating map is zero at a list in which an element occurs twice
   pub repeat_zero : (m u : List ℕ) (x : ℕ) (w : List ℕ) → chi (u ++ x ∷ (m ++ x ∷ w)) ≡ Zero
   repeat_zero [] u x w = own_opposite _ (alt x x u w)
   repeat_zero (z ∷ m) u x w =
@@ -73,6 +76,7 @@ module _ (chi : List ℕ → Sign) (alt : IsAlternating chi) where
       let h : chi (u ++ z ∷ x ∷ (m ++ x ∷ w)) ≡ Zero = subst (λ l. chi l ≡ Zero) e (repeat_zero m (u ++ z ∷ []) x w) in
       alt z x u (m ++ x ∷ w) ∙ opposite_zero _ h
 
+  -- an alternating map is zero at a list with two equal neighbours
   pub neighbours_zero : (x : ℕ) (cs bs : List ℕ) → chi (cs ++ x ∷ x ∷ bs) ≡ Zero
   neighbours_zero x cs bs = own_opposite _ (alt x x cs bs)
 
@@ -89,6 +93,7 @@ module _ (chi : List ℕ → Sign) (alt : IsAlternating chi) where
       (moved_over m (u ++ z ∷ []) x w)) in
       alt z x u (m ++ w) ∙ ap opposite h
 
+  -- a list at which an alternating map isn't zero has no repeat
   pub nonzero_distinct : (t : List ℕ) → IsNonzero (chi t) → IsDistinct t
   nonzero_distinct t n =
       ⊎_elim (λ r. r) (λ r. absurd (n (ap chi r.4 ∙ repeat_zero r.2 r.0 r.1 r.3))) (distinct_or_repeat t)
@@ -97,6 +102,7 @@ module _ (chi : List ℕ → Sign) (alt : IsAlternating chi) where
       → IsNonzero (chi (u ++ y ∷ x ∷ v))
   nonzero_swapped u x y v n = nonzero_if_opposite _ _ (alt x y u v) n
 
+  -- where an alternating map isn't zero, it isn't with an element moved to the end
   pub nonzero_to_end : (u v : List ℕ) (e : ℕ) → IsNonzero (chi (u ++ e ∷ v)) → IsNonzero (chi ((u ++ v) ++ e ∷ []))
   nonzero_to_end u v e n =
       let h = moved_over v u e [] in
@@ -105,6 +111,7 @@ module _ (chi : List ℕ → Sign) (alt : IsAlternating chi) where
       let n2 = nonzero_from_negated_times (length v) (chi (u ++ (v ++ e ∷ []))) (subst IsNonzero h n1) in
       subst (λ l. IsNonzero (chi l)) (sym (append_assoc u v (e ∷ []))) n2
 
+  -- where an alternating map isn't zero, it isn't with the last element moved to any place
   pub nonzero_from_end : (u v : List ℕ) (e : ℕ) → IsNonzero (chi ((u ++ v) ++ e ∷ [])) → IsNonzero (chi (u ++ e ∷ v))
   nonzero_from_end u v e n =
       let h = moved_over v u e [] in
@@ -113,6 +120,7 @@ module _ (chi : List ℕ → Sign) (alt : IsAlternating chi) where
       subst IsNonzero (sym h) (negated_times_nonzero (length v) (chi (u ++ (v ++ e ∷ []))) n1) in
       subst (λ l. IsNonzero (chi (u ++ e ∷ l))) (append-nil v) n2
 
+  -- an alternating map is zero at a list that is followed by one of its own elements
   pub last_repeat_zero : (y : List ℕ) (g : ℕ) → IsMember g y → chi (y ++ g ∷ []) ≡ Zero
   last_repeat_zero y g m =
       let s = split_at g y m in

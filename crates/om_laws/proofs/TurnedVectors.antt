@@ -21,18 +21,21 @@ pub turning_nonzero : (set : ℕ → Bool) (e : ℕ) → IsNonzero (turning set 
 turning_nonzero set e = elim (set e) as
     (λ b. IsNonzero (cond b Minus Plus)) [ true ↦ minus_nonzero | false ↦ plus_nonzero ]
 
+-- the sign by which a reorientation turns the value of a tuple isn't zero
 pub signs_product_nonzero : (set : ℕ → Bool) (t : List ℕ) → IsNonzero (signs_product (turning set) t)
 signs_product_nonzero set [] = plus_nonzero
 signs_product_nonzero set (x ∷ t) =
     product_nonzero (turning set x) (signs_product (turning set) t) (turning_nonzero set x)
     (signs_product_nonzero set t)
 
+-- the product of the signs of a tuple is that of one entry times the product of the others
 pub signs_product_middle : (sigma : ℕ → Sign) (cs bs : List ℕ) (x : ℕ)
     → signs_product sigma (cs ++ x ∷ bs) ≡ product (sigma x) (signs_product sigma (cs ++ bs))
 signs_product_middle sigma [] bs x = refl
 signs_product_middle sigma (c ∷ cs) bs x = ap (product (sigma c)) (signs_product_middle sigma cs bs x)
     ∙ product_left_comm (sigma c) (sigma x) (signs_product sigma (cs ++ bs))
 
+-- the product of the signs of a tuple stays the same where two neighbours change places
 pub signs_product_swap : (sigma : ℕ → Sign) (cs bs : List ℕ) (x y : ℕ)
     → signs_product sigma (cs ++ y ∷ x ∷ bs) ≡ signs_product sigma (cs ++ x ∷ y ∷ bs)
 signs_product_swap sigma [] bs x y = product_left_comm (sigma y) (sigma x) (signs_product sigma bs)

@@ -164,6 +164,7 @@ module _ (E : List ℕ) (chi : List ℕ → Sign) (om : IsChirotope E chi) where
   circuit_supported X c g n =
       c.within g (around_member chi c.tuple g (nonzero_up_to_sign (X g) (around chi c.tuple g) n (circuit_sign X c g)))
 
+  -- a cocircuit of a chirotope on E is nonzero only at elements of E
   pub cocircuit_supported : (Y : SignVector) → IsCocircuit chi Y → (g : ℕ) → IsNonzero (Y g) → IsMember g E
   cocircuit_supported Y d g n =
       om.within (d.tuple ++ g ∷ []) (nonzero_up_to_sign (Y g) (along chi d.tuple g) n (cocircuit_sign Y d g)) g

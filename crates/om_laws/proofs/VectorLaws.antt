@@ -19,6 +19,7 @@ use Rattle.om_laws.specs.Signs.{IsNonzero}
 HasProduct_sym : (x y : SignVector) (s : Sign) → HasProduct x y s → HasProduct y x s
 HasProduct_sym x y s (e, p) = (e, product_comm (y e) (x e) ∙ p)
 
+-- orthogonality of sign vectors is symmetric
 pub orthogonal_sym : (x y : SignVector) → Orthogonal x y → Orthogonal y x
 orthogonal_sym x y o = record {
   minus = λ h. HasProduct_sym x y Minus (o.minus (HasProduct_sym y x Plus h));
@@ -101,12 +102,15 @@ same_trans x y z (inl p) (inr q) = inr (λ e. p e ∙ q e)
 same_trans x y z (inr p) (inl q) = inr (λ e. p e ∙ ap opposite (q e))
 same_trans x y z (inr p) (inr q) = inl (λ e. p e ∙ ap opposite (q e) ∙ opposite-opposite (z e))
 
+-- being equal up to sign is symmetric
 pub same_sym : (x y : SignVector) → AreEqualUpToSign x y → AreEqualUpToSign y x
 same_sym x y s = ⊎_elim (λ q. inl (λ e. sym (q e))) (λ q. inr (λ e. opposite_swap (x e) (y e) (q e))) s
 
+-- of two vectors that are equal up to sign, the first is zero where the second is
 pub same_zero : (x y : SignVector) → AreEqualUpToSign x y → (g : ℕ) → y g ≡ Zero → x g ≡ Zero
 same_zero x y s g z = ⊎_elim (λ q. q g ∙ z) (λ q. q g ∙ opposite_zero (y g) z) s
 
+-- in two vectors that are equal up to sign, the product of the signs at two elements is the same
 pub same_products : (x y : SignVector) → AreEqualUpToSign x y → (g h : ℕ) → product (x g) (x h) ≡ product (y g) (y h)
 same_products x y s g h =
     ⊎_elim (λ q. ap (λ z. product z (x h)) (q g) ∙ ap (product (y g)) (q h))
