@@ -42,6 +42,7 @@ old_tuple n w p (x ∷ t) h =
       },
     )
 
+-- the image of a map with a sign for each set has a sign for each set
 pub acted_whole : (m : SignMap) (w : List SignedElement) → IsMap m → IsMap (acted w m)
 acted_whole m w h = whole_by m.rank m.elements (image_value w (value_of m)) h.part
 
@@ -65,6 +66,7 @@ module _ (n : ℕ) (w : List SignedElement) (p : IsSignedPermutation n w) (chi :
   image_chirotope t h k = reoriented_chirotope (is_negated_at w) (elements_to n) (relabelled (element_at w) chi)
       (relabelled_chirotope t h k)
 
+-- the image of a chirotope under a signed permutation is a chirotope
 pub acted_chirotope : (m : SignMap) (w : List SignedElement) → IsSignedPermutation m.elements w → IsChirotope m
     → IsChirotope (acted w m)
 acted_chirotope m w p c =

@@ -38,6 +38,7 @@ module _ (n : ℕ) (w : List SignedElement) (p : IsSignedPermutation n w) where
         (sym (element_apart n w p i j.0 k (each_member (IsElement n) t h j.0 j.1) j.2)) j.1,
   )
 
+  -- the old elements of distinct elements of 1 to n are distinct
   pub distinct_there : (t : List ℕ) → Each (IsElement n) t → IsDistinct t → IsDistinct (map (element_at w) t)
   distinct_there [] h d = tt
   distinct_there (x ∷ t) h d = (λ m. d.0 ((member_there t h.1 x h.0).1 m), distinct_there t h.1 d.1)
@@ -53,6 +54,7 @@ module _ (m : SignMap) (w : List SignedElement) (p : IsSignedPermutation m.eleme
         (signs_product_nonzero (is_negated_at w) t) k (sym (acted_value m w p t h) ∙ z),
   )
 
+  -- a set is a basis of the image exactly if the sorted list of its old elements is a basis of the map
   pub acted_basis : (b : List ℕ) → IsSubsetFrom 1 m.elements b → length b ≡ m.rank
       → IsBasis (acted w m) b ↔ IsBasis m (sorted (map (element_at w) b))
   acted_basis b h l =
@@ -92,6 +94,7 @@ module _ (m : SignMap) (w : List SignedElement) (p : IsSignedPermutation m.eleme
         },
       )
 
+  -- for each basis of the map, some basis of the image has the same elements
   pub basis_back : (c : List ℕ) → IsBasis m c → (b : List ℕ) × AreSameBases b c
   basis_back c basis =
       let t = to_tuple m.elements m.rank c basis.list basis.size in
@@ -131,6 +134,7 @@ module _ (m : SignMap) (w : List SignedElement) (p : IsSignedPermutation m.eleme
     λ coloop b basis. let c = basis_there b basis in (c.1.members i h).1 (coloop c.0 c.1.old),
   )
 
+  -- a set is independent in the image exactly if that of its old elements is independent in the map
   pub acted_independent : (s : List ℕ) → Each (IsElement m.elements) s
       → IsIndependent (acted w m) s ↔ IsIndependent m (map (element_at w) s)
   acted_independent s h = (there, back)

@@ -48,6 +48,7 @@ all_listed n xs t d e i = ⊎_elim
 
 -- ---- places
 
+-- a member of a list stands at some place
 pub place_of : (e : ℕ) (xs : List ℕ) → IsMember e xs → (i : ℕ) × (i < length xs) × (get_or xs i 0 ≡ e)
 place_of e [] m = absurd m
 place_of e (x ∷ xs) (inl q) = (0, omega arith, sym q)

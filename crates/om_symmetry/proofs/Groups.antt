@@ -52,15 +52,18 @@ pub acted_back : (m : SignMap) → IsMap m → (w v : List SignedElement) → Is
 acted_back m whole w v p q e = acted_twice m w v p q
     ∙ ap (λ u. acted u m) (e ∙ ap identity (permutation_length m.elements w p)) ∙ acted_identity m whole
 
+-- being isomorphic is reflexive
 pub isomorphic_self : (m : SignMap) → IsMap m → AreIsomorphic m m
 isomorphic_self m whole = (identity m.elements, identity_permutation m.elements, acted_identity m whole)
 
+-- being isomorphic is symmetric
 pub isomorphic_back : (m k : SignMap) → IsMap m → AreIsomorphic m k → AreIsomorphic k m
 isomorphic_back m k whole (w, p, e) =
     let v = inverse_exists m.elements w p in
     subst (λ j. AreIsomorphic j m) e
     (v.0, v.1.permutation, acted_back m whole w v.0 p v.1.permutation v.1.inverse.then_back)
 
+-- being isomorphic is transitive
 pub isomorphic_on : (m k j : SignMap) → AreIsomorphic m k → AreIsomorphic k j → AreIsomorphic m j
 isomorphic_on m k j (w, p, e) (v, q, f) =
     let same : k.elements ≡ m.elements = ap (λ (i : SignMap). i.elements) (sym e) in

@@ -64,6 +64,7 @@ module _ (n : ℕ) (w : List SignedElement) (p : IsSignedPermutation n w) where
   each_back [] h = tt
   each_back (x ∷ t) h = (element_back x h.0, each_back t h.1)
 
+  -- the old elements of a tuple of 1 to n are a tuple of 1 to n
   pub tuple_image : (r : ℕ) (t : List ℕ) → IsTuple n r t → IsTuple n r (map (element_at w) t)
   tuple_image r t h = record { size = length-map t (element_at w) ∙ h.size; within = each_image t h.within }
 
@@ -91,6 +92,7 @@ module _ (n : ℕ) (w : List SignedElement) (p : IsSignedPermutation n w) where
 -- ---- the image of a map
 
 module _ (m : SignMap) (w : List SignedElement) where
+  -- at a set, the sign of the image is the value at the old elements, negated once for each negative among them
   pub acted_sign : (xs : List ℕ) → IsSubsetFrom 1 m.elements xs → length xs ≡ m.rank
       → chi_of (acted w m) xs ≡ image_value w (value_of m) xs
   acted_sign xs h l = rule_at m.rank m.elements (image_value w (value_of m)) xs h l
@@ -108,6 +110,7 @@ module _ (m : SignMap) (w : List SignedElement) where
 
 -- ---- maps by rules
 
+-- rules that agree on all sets of r of 1 to n give the same list of signs
 pub same_listed : (r n : ℕ) (f g : List ℕ → Sign)
     → ((xs : List ℕ) → IsSubsetFrom 1 n xs → length xs ≡ r → f xs ≡ g xs)
     → map f (all_subsets n r) ≡ map g (all_subsets n r)
@@ -121,10 +124,12 @@ same_listed r n f g h = ext_get_or Zero (map f (all_subsets n r)) (map g (all_su
     get_or-map f (all_subsets n r) j [] Zero few ∙ h (subset_at n r j) t.lawful t.size
     ∙ sym (get_or-map g (all_subsets n r) j [] Zero few))
 
+-- rules that agree on all sets of r of 1 to n give the same map
 pub same_by : (r n : ℕ) (f g : List ℕ → Sign)
     → ((xs : List ℕ) → IsSubsetFrom 1 n xs → length xs ≡ r → f xs ≡ g xs) → map_by r n f ≡ map_by r n g
 same_by r n f g h = λ i. record { rank = r; elements = n; signs = same_listed r n f g h i }
 
+-- the signs that a map has at all sets, in their order, are its list of signs
 pub own_signs : (m : SignMap) → IsMap m → map (chi_of m) (all_subsets m.elements m.rank) ≡ m.signs
 own_signs m h = ext_get_or Zero (map (chi_of m) (all_subsets m.elements m.rank)) m.signs
     (length-map (all_subsets m.elements m.rank) (chi_of m) ∙ length-subsets_from 1 m.elements m.rank ∙ sym h.whole)
@@ -136,5 +141,6 @@ own_signs m h = ext_get_or Zero (map (chi_of m) (all_subsets m.elements m.rank))
     get_or-map (chi_of m) (all_subsets m.elements m.rank) j [] Zero few
     ∙ ap (at m.signs) (listed 1 m.elements m.rank j small).place)
 
+-- a map is made by the rule of its own signs
 pub by_own_signs : (m : SignMap) → IsMap m → map_by m.rank m.elements (chi_of m) ≡ m
 by_own_signs m h = λ i. record { rank = m.rank; elements = m.elements; signs = own_signs m h i }

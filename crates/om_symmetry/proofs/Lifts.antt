@@ -12,6 +12,7 @@ use Rattle.om_symmetry.specs.Permutations.{IsSignedPermutation, no_element, sign
 use Rattle.om_symmetry.proofs.Places.{permutation_length, element_within, element_apart, permutation_by}
 
 module _ (n : ℕ) (w : List SignedElement) (l : length w ≡ n) where
+  -- the lift has at the places 1 to n what was there before
   pub lifted_at : (i : ℕ) → IsElement n i → signed_at (lifted w) i ≡ signed_at w i
   lifted_at zero (low, high) = refl
   lifted_at (suc i) (low, high) =
@@ -72,6 +73,7 @@ module _ (n : ℕ) (w : List SignedElement) (p : IsSignedPermutation n w) where
     ]
   ]
 
+  -- the lift of a signed permutation of 1 to n is one of 1 to n + 1
   pub lifted_permutation : IsSignedPermutation (suc n) (lifted w)
   lifted_permutation = permutation_by (suc n) (lifted w) (length_lifted n w (permutation_length n w p)) lifted_within
       lifted_apart

@@ -12,6 +12,7 @@ use Rattle.om_chirotope.specs.Map.{SignMap}
 use Rattle.om_denotation.specs.Maps.{map_by}
 
 module _ (rule : List ℕ → Sign) (n r place : ℕ) where
+  -- with the sign of the next set behind them, the signs of the first sets are those of one set more
   pub sign_more : (signs new : List Sign) (s : Chosen) (sign : Sign) → place < choose n r → IsAt n r place s
       → sign ≡ rule s.elements → signs ≡ map rule (take place (all_subsets n r)) → new ≡ signs ++ sign ∷ []
       → new ≡ map rule (take (place + 1) (all_subsets n r))
@@ -23,6 +24,7 @@ module _ (rule : List ℕ → Sign) (n r place : ℕ) where
       (take_more xs place [] (subst (λ k. place < k) (sym (length-subsets_from 1 n r)) l))
       ∙ map-append rule (take place xs) (subset_at n r place ∷ []))
 
+  -- once the signs of all sets are made by a rule, the map with these signs is the map by the rule
   pub made_map : (end : ℕ) (signs : List Sign) (rank elements : ℕ) → end ≡ choose n r → end ≤ place
       → signs ≡ map rule (take place (all_subsets n r)) → n ≡ elements → r ≡ rank
       → ◌≡◌ {A = SignMap} (record { rank = r; elements = n; signs = signs }) (map_by rank elements rule)

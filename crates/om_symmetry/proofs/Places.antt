@@ -16,6 +16,7 @@ use Rattle.om_symmetry.specs.declared.signed_element.SignedElement.{SignedElemen
 use Rattle.om_symmetry.specs.Permutations.{elements_of, IsSignedPermutation, no_element, signed_at, element_at}
 use Rattle.om_symmetry.proofs.Distinct.{all_listed, place_of, places_apart, distinct_by_places}
 
+-- the element at place j + 1 is the one at place j, counted from 0, of the list of elements
 pub element_listed : (w : List SignedElement) (j : ℕ) → element_at w (suc j) ≡ get_or (elements_of w) j 0
 element_listed [] j = refl
 element_listed (a ∷ w) zero = refl
@@ -39,13 +40,16 @@ pub made_at : (n : ℕ) (f : ℕ → SignedElement) (i : ℕ) → IsElement n i 
 made_at n f zero (low, high) = absurd (omega arith)
 made_at n f (suc i) (low, high) = get_or-map-range_with_len f 1 n i (suc i) no_element (omega arith) (omega arith)
 
+-- a list that is made from 1 to n has n entries
 pub length_made : (n : ℕ) (f : ℕ → SignedElement) → length (map f (elements_to n)) ≡ n
 length_made n f = length-map-range_with_len f 1 n
 
 module _ (n : ℕ) (w : List SignedElement) (p : IsSignedPermutation n w) where
+  -- a signed permutation of 1 to n has n entries
   pub permutation_length : length w ≡ n
   permutation_length = sym (length-map w (λ (a : SignedElement). a.element)) ∙ p.tuple.size
 
+  -- a signed permutation has an element of 1 to n at each of the places 1 to n
   pub element_within : (i : ℕ) → IsElement n i → IsElement n (element_at w i)
   element_within zero (low, high) = absurd (omega arith)
   element_within (suc i) (low, high) =
@@ -57,6 +61,7 @@ module _ (n : ℕ) (w : List SignedElement) (p : IsSignedPermutation n w) where
   pub element_off : (i : ℕ) → (IsElement n i → ⊥) → element_at w i ≡ 0
   element_off i off = ap (λ (a : SignedElement). a.element) (signed_off n w permutation_length i off)
 
+  -- two of the places 1 to n with the same element are the same place
   pub element_apart : (i j : ℕ) → IsElement n i → IsElement n j → element_at w i ≡ element_at w j → i ≡ j
   element_apart zero j (low, high) k q = absurd (omega arith)
   element_apart (suc i) zero h (low, high) q = absurd (omega arith)
@@ -74,6 +79,7 @@ module _ (n : ℕ) (w : List SignedElement) (p : IsSignedPermutation n w) where
       let lt = k.1 in
       (suc k.0, (omega arith, omega arith), element_listed w k.0 ∙ k.2)
 
+-- n signed elements of 1 to n, no two of them of the same element, are a signed permutation
 pub permutation_by : (n : ℕ) (u : List SignedElement) → length u ≡ n
     → ((i : ℕ) → IsElement n i → IsElement n (element_at u i))
     → ((i j : ℕ) → IsElement n i → IsElement n j → element_at u i ≡ element_at u j → i ≡ j) → IsSignedPermutation n u

@@ -78,6 +78,7 @@ pub stays : (n : ℕ) (set : ℕ → Bool) (i : ℕ) → IsElement n i
     → signed_at (negated_on n set) i ≡ record { element = i; negated = set i }
 stays n set i h = made_at n (λ i. record { element = i; negated = set i }) i h
 
+-- the reorientation of a set is a signed permutation
 pub reorientation_permutation : (n : ℕ) (set : ℕ → Bool) → IsSignedPermutation n (negated_on n set)
 reorientation_permutation n set =
     permutation_by n (negated_on n set) (length_made n (λ i. record { element = i; negated = set i }))
@@ -86,6 +87,7 @@ reorientation_permutation n set =
     here : (i : ℕ) → IsElement n i → element_at (negated_on n set) i ≡ i
     here i h = ap (λ (a : SignedElement). a.element) (stays n set i h)
 
+-- the identity is a signed permutation
 pub identity_permutation : (n : ℕ) → IsSignedPermutation n (identity n)
 identity_permutation n = reorientation_permutation n (λ i. false)
 

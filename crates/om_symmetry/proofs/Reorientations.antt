@@ -37,6 +37,7 @@ module _ (n : ℕ) (set : ℕ → Bool) where
       (ap (λ (a : SignedElement). a.negated) (stays n set x h.0))
       ∙ ap (product (turning set x)) (stays_signs t h.1)
 
+-- the image of a map under the reorientation of a set is the map by its signs, reoriented on the set
 pub acted_reorientation : (m : SignMap) (set : ℕ → Bool)
     → acted (negated_on m.elements set) m ≡ map_by m.rank m.elements (reoriented set (chi_of m))
 acted_reorientation m set = same_by m.rank m.elements (image_value (negated_on m.elements set) (value_of m))
@@ -73,6 +74,7 @@ module _ (m : SignMap) where
       signs : map (λ xs. opposite (chi_of m xs)) (all_subsets m.elements m.rank) ≡ map opposite m.signs
       signs = fused (all_subsets m.elements m.rank) ∙ ap (map opposite) (own_signs m whole)
 
+  -- a map of odd rank is isomorphic to its negative
   pub isomorphic_negative : IsMap m → m.rank % 2 ≡ 1 → AreIsomorphic m (negated m)
   isomorphic_negative whole odd =
       (all_negated m.elements, reorientation_permutation m.elements (λ i. true), acted_odd whole odd)

@@ -25,6 +25,7 @@ pub record IsSortedSet (n : ℕ) (t s : List ℕ) : Type 0 where
   pub size : length s ≡ length t
   pub members : (e : ℕ) → IsMember e s ↔ IsMember e t
 
+-- the sorted list of a distinct tuple of 1 to n is the increasing list of its elements
 pub sorted_set : (n : ℕ) (t : List ℕ) → Each (IsElement n) t → IsDistinct t → IsSortedSet n t (sorted t)
 sorted_set n [] w d = record { list = tt; size = refl; members = λ e. (λ m. m, λ m. m) }
 sorted_set n (x ∷ t) w d =

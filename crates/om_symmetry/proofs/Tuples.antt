@@ -54,6 +54,7 @@ tuple_more w s table new size sign next rest behind i e turn qr qe qt qn qs few 
 
 module _ (w : List SignedElement) (s table : List ℕ) (size : ℕ) (sign : Sign) (rest : List ℕ) (none : length rest ≡ 0)
     (h : IsTupleTo w s table size sign rest) where
+  -- once no element of s is left, the first places of the table have the old elements of s
   pub tuple_all : take size table ≡ map (element_at w) s
   tuple_all = sym (append-nil (take size table))
       ∙ ap (λ x. take size table ++ map (element_at w) x) (sym (nil_from_length rest none)) ∙ h.tuple
