@@ -70,6 +70,7 @@ module _ (P Q : SignMap → Type 0) (T : List Sign → Type 0) (n : ℕ) (step :
       (step.image g.extension g.isomorphic.0 g.isomorphic.1
       (step.member g.member g.extension (All-contains P classes g.member complete.members g.listed) g.extends g.tried))
 
+  -- given a step from P to Q, a cover of a complete list of maps of P is a complete list of maps of Q
   pub next_complete : IsComplete Q next
   next_complete = record {
     members = λ k d lt. met (get_or next k d) (Contains-get_or next k d lt);

@@ -52,5 +52,6 @@ module _ (T : List Sign → Type 0) (n : ℕ) (classes next : List SignMap) (of 
         );
       }
 
+  -- a cover that is found line by line, of a list of maps of rank 3 on n elements, is a cover
   pub cover_from_lines : IsCover T n classes next
   cover_from_lines = record { taken = taken; met = met }

@@ -12,6 +12,7 @@ use Rattle.om_localize.proofs.FirstMembers.{number_of_before}
 not_before_itself : (xs : List Sign) → IsBefore xs xs → ⊥
 not_before_itself xs b = let l = number_of_before xs xs refl b in omega arith
 
+-- the first members of a family are all its members, if no further one follows
 pub whole_listing : (P : List Sign → Type 0) (k : ℕ) (lines : List (List Sign)) → AreFirst P k lines false
     → (xs : List Sign) → P xs → Contains lines xs
 whole_listing P k lines h xs p = ⊎_elim

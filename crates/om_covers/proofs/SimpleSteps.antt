@@ -133,6 +133,7 @@ simple_below n large m h =
       extends = is_extension x several om b.2;
     }
 
+-- if 3 ≤ n, IsSimpleHalf gives a step from the simple chirotopes on n elements to those on n + 1
 pub simple_step : (n : ℕ) → 3 ≤ n → IsStep (IsSimpleChirotope n) (IsSimpleChirotope (n + 1)) (IsSimpleHalf n) n
 simple_step n large = record {
   image = simple_image (n + 1);

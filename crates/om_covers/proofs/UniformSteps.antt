@@ -187,6 +187,7 @@ uniform_below n large m h =
       extends = is_extension x several om b.2;
     }
 
+-- if 3 ≤ n, IsUniformHalf gives a step from the uniform chirotopes on n elements to those on n + 1
 pub uniform_step : (n : ℕ) → 3 ≤ n → IsStep (IsUniformChirotope n) (IsUniformChirotope (n + 1)) IsUniformHalf n
 uniform_step n large = record {
   image = uniform_image (n + 1);
