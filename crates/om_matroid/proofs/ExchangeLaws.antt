@@ -70,6 +70,7 @@ module _ (m : SignMap) (axioms : IsChirotope m) where
             (subst (λ l. value_of m (l ++ y ∷ []) ≢ Zero) (sym without) value_behind);
       }
 
+  -- in a chirotope, an element of one basis off another changes places with one of the other, and both stay bases
   pub symmetric_exchange : (b c : List ℕ) (e : ℕ) → IsBasis m b → IsBasis m c → IsMember e b → (IsMember e c → ⊥)
       → (f : ℕ) × IsExchange m b c e f × IsBasis m (with_element e (without_element f c))
   symmetric_exchange b c e first second inside outside =

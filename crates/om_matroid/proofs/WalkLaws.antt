@@ -31,6 +31,7 @@ module _ (P : List ℕ → Type 0) (n r : ℕ) where
       → P b
   each_set h b list size = let p = place_of b list size in subst P p.1 (h (rank_of n b) p.0)
 
+  -- if the property holds at no place below choose n r, no set of r of the elements 1 to n has it
   pub none_at_all : HasNoneBefore P n r (choose n r) → (b : List ℕ) → IsSubsetFrom 1 n b → length b ≡ r → P b → ⊥
   none_at_all h b list size p = let q = place_of b list size in h (rank_of n b) q.0 (subst P (sym q.1) p)
 
