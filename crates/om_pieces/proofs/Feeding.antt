@@ -219,6 +219,7 @@ shown_all : (parts : List (List (List ℕ))) → map shown parts ≡ map (take m
 shown_all [] = refl
 shown_all (p ∷ ps) = ap (λ l. shown p ∷ l) (shown_all ps)
 
+-- of bytes that are cut into pieces, the cutter makes the first bytes of each piece
 pub cut_pieces : (n : ℕ) (bytes : List ℕ) (pieces : List (List ℕ)) → IsCut n bytes pieces
     → made (nothing n) bytes ≡ map (take most) pieces
 cut_pieces n bytes pieces (parts, (c, e)) =
@@ -242,6 +243,7 @@ pub whole_pieces : (n : ℕ) (bytes rest : List ℕ) (pieces : List (List ℕ)) 
 whole_pieces n bytes rest pieces c =
     let h = completed_first (nothing n) bytes rest in (h.0, sym (cut_pieces n (bytes ++ rest) pieces c) ∙ h.1)
 
+-- if at least one `end` line closes a piece, bytes have exactly one cut into pieces
 pub has_one_cut : (n : ℕ) (bytes : List ℕ) → 1 ≤ n → HasOneCut n bytes
 has_one_cut n bytes pos = (
   map bytes_of (cut n n false [] (full_lines bytes)),
