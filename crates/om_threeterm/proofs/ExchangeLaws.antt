@@ -120,6 +120,7 @@ module _ (m : SignMap) where
               size = length-with f rest (λ j. n ((members_without e f b).0 j).1)
                   ∙ length-without 1 m.elements e b first.list inside ∙ first.size
 
+  -- a map without a violated exchange has exchange of bases
   pub exchange_of_no_violated : ((b c : List ℕ) (e : ℕ) → IsUnexchanged m b c e → ⊥) → HasExchange m
   exchange_of_no_violated none b c e first second inside outside =
       ⊎_elim (λ x. x)

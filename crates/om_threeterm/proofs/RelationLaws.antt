@@ -23,6 +23,7 @@ use Rattle.om_threeterm.specs.Sets.{IsUnbalancedAt}
 
 -- ---- the balance of three signs
 
+-- three signs are balanced or not
 pub balanced_or_not : (x y z : Sign) → AreBalanced x y z ⊎ (AreBalanced x y z → ⊥)
 balanced_or_not Plus Minus s = inl tt
 balanced_or_not Plus Zero Minus = inl tt
