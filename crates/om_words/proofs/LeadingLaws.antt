@@ -61,6 +61,7 @@ zero_below n list entries q among = elim (cases_eq q 0) [
   | inr other ↦ entries_below n list entries q (rw (ne_eqb q 0 other) at among)
 ]
 
+-- a list of entries that name different elements of 1 to n has at most n entries
 pub few_entries : (n : ℕ) (list : List Signed) → AreEntries n list → AreDifferent list → length list ≤ n
 few_entries n list entries different =
     let all : length (0 ∷ elements_of list) ≤ n + 1 =
