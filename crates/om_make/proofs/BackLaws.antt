@@ -19,6 +19,7 @@ use Rattle.om_convert.proofs.WidthLaws.{narrow_of_rank_3}
 use Rattle.om_make.specs.Lists.{ListsCocircuits, ListsCovectors}
 use Rattle.om_make.specs.Tallies.{ComesBack}
 
+-- each chirotope that denotes the same as a given one, and that a plus leads, is the normal form of the given one
 pub comes_back : (m : SignMap) → IsChirotope m → ComesBack m
 comes_back m om k ok elements same led = record { same = same_by_covectors m k om ok elements same; normal = led }
 
