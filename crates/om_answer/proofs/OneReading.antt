@@ -25,6 +25,7 @@ same_fault ls l m c e a b =
 pub no_fault : (ls : List (List ℕ)) (c : Claim) (l : ℕ) (e : Code) → IsClaim ls c → IsClaimFault ls l e → ⊥
 no_fault ls c l e a b = let p = claim_comes ls c a in let q = claim_fault_comes ls l e b in cc
 
+-- lines are a claim, or have a first line at fault and a code for it
 pub claim_or_fault : (ls : List (List ℕ)) → ((c : Claim) × IsClaim ls c) ⊎ ((l : ℕ) × (e : Code) × IsClaimFault ls l e)
 claim_or_fault ls = at (claim_outcome (in_document Start) 0 ls) refl
   where
