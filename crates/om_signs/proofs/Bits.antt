@@ -52,6 +52,7 @@ bit_from_test p k h = elim (cases_eq (bit_at p k) 0) [
   | inr n ↦ let l = bit_at-lt p k in omega arith
 ]
 
+-- a test `p & (1 << k) == 0`
 pub no_bit_from_test : (p k : ℕ) → bit_and p (2 ^ k) ≡ 0 → bit_at p k ≡ 0
 no_bit_from_test p k h = elim (cases_eq (bit_at p k) 0) [
   | inl z ↦ z
@@ -70,19 +71,24 @@ some_bit n pos lt = let h = bit_at-trailing_zeros w32 n (omega arith) lt in (_, 
 
 -- ---- a bit is 0 or 1
 
+-- no bit is both 0 and 1
 pub not_zero_and_one : (b : ℕ) → b ≡ 0 → b ≡ 1 → ⊥
 not_zero_and_one b zero one = omega arith
 
+-- a bit is 1 or 0, to tell the two cases apart
 pub bit_one_or_zero : (n i : ℕ) → (bit_at n i ≡ 1) ⊎ (bit_at n i ≡ 0)
 bit_one_or_zero n i =
     elim (cases_eq (bit_at n i) 1) [ inl one ↦ inl one | inr none ↦ let l = bit_at-lt n i in inr (omega arith) ]
 
+-- a bit that isn't 1 is 0
 pub bit_zero_if_not_one : (n i : ℕ) → (bit_at n i ≡ 1 → ⊥) → bit_at n i ≡ 0
 bit_zero_if_not_one n i none = elim (bit_one_or_zero n i) [ inl one ↦ absurd (none one) | inr zero ↦ zero ]
 
+-- the number 0 has no bit that is 1
 pub zero_has_no_bit : (i : ℕ) → bit_at 0 i ≡ 1 → ⊥
 zero_has_no_bit i = not_zero_and_one (bit_at 0 i) (bit_at-zero i)
 
+-- a number with a bit that is 1 isn't 0
 pub nonzero_from_bit : (n i : ℕ) → bit_at n i ≡ 1 → n ≢ 0
 nonzero_from_bit n i one z = zero_has_no_bit i (ap (λ k. bit_at k i) (sym z) ∙ one)
 
@@ -95,6 +101,7 @@ bit_within mask n i small one = elim (cases_lt i n) [
 
 -- ---- the bits that two numbers have in common
 
+-- a bit of `a & b` is 1 exactly if that bit is 1 in both numbers
 pub bit_at_and_one : (a b i : ℕ) → (bit_at (bit_and a b) i ≡ 1) ↔ ((bit_at a i ≡ 1) × (bit_at b i ≡ 1))
 bit_at_and_one a b i =
     let both = bit_at_and a b i in
@@ -102,6 +109,7 @@ bit_at_and_one a b i =
     let q = bit_at-lt b i in
     (λ h. (omega arith, omega arith), λ (u, v). omega arith)
 
+-- half of `a & b`, rounded down, is what the halves of the two numbers have in common
 pub bit_and-half : (a b : ℕ) → bit_and a b / 2 ≡ bit_and (a / 2) (b / 2)
 bit_and-half a b = same_from_bits _ _ (λ i.
     sym (bit_at-suc (bit_and a b) i) ∙ bit_at_and a b (suc i) ∙ sides i ∙ sym (bit_at_and (a / 2) (b / 2) i))
@@ -109,11 +117,13 @@ bit_and-half a b = same_from_bits _ _ (λ i.
     sides : (i : ℕ) → min (bit_at a (suc i)) (bit_at b (suc i)) ≡ min (bit_at (a / 2) i) (bit_at (b / 2) i)
     sides i = rw (bit_at-suc a i, bit_at-suc b i) refl
 
+-- the lowest bit of `a & b` is the smaller one of the two lowest bits
 pub bit_and-lowest : (a b : ℕ) → bit_and a b % 2 ≡ min (a % 2) (b % 2)
 bit_and-lowest a b = sym (bit_at_lowest (bit_and a b)) ∙ bit_at_and a b 0
     ∙ (let p = bit_at_lowest a in let q = bit_at_lowest b in rw (p, q) refl)
 
 -- ---- powers of 2
 
+-- one more in the exponent doubles a power of 2
 pub pow-add_one : (n : ℕ) → 2 ^ (n + 1) ≡ 2 * 2 ^ n
 pow-add_one n = let e : n + 1 ≡ suc n = omega arith in ap (λ k. 2 ^ k) e ∙ pow-succ' 2 n

@@ -51,6 +51,7 @@ never_both Minus = refl
 never_both Zero = refl
 never_both Plus = refl
 
+-- the two bits of a sign stand for that sign
 pub sign_of_is : (s : Sign) → sign_of (is_plus s) (is_minus s) ≡ s
 sign_of_is Minus = refl
 sign_of_is Zero = refl
