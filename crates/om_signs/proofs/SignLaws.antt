@@ -8,50 +8,65 @@ use Rattle.om_signs.specs.declared.sign.Sign.{Sign}
 use Rattle.om_signs.specs.declared.sign.Sign.TheVariants.{Minus, Zero, Plus}
 use Rattle.om_signs.specs.Sign.{opposite, product, first_nonzero}
 
+-- plus isn't zero, for laws that ask for a nonzero sign
 pub plus_nonzero : Plus ≢ Zero
 plus_nonzero e = cc
 
+-- minus isn't zero, for laws that ask for a nonzero sign
 pub minus_nonzero : Minus ≢ Zero
 minus_nonzero e = cc
 
+-- to refute an equation with zero on the left and plus on the right
 pub zero_not_plus : Zero ≢ Plus
 zero_not_plus e = cc
 
+-- to refute an equation with zero on the left and minus on the right
 pub zero_not_minus : Zero ≢ Minus
 zero_not_minus e = cc
 
+-- to refute an equation with plus on the left and minus on the right
 pub plus_not_minus : Plus ≢ Minus
 plus_not_minus e = cc
 
+-- to refute an equation with minus on the left and plus on the right
 pub minus_not_plus : Minus ≢ Plus
 minus_not_plus e = cc
 
+-- to tell two cases apart: a sign is zero, or it isn't
 pub zero_or_nonzero : (s : Sign) → (s ≡ Zero) ⊎ (s ≢ Zero)
 zero_or_nonzero Minus = inr minus_nonzero
 zero_or_nonzero Zero = inl refl
 zero_or_nonzero Plus = inr plus_nonzero
 
+-- the two factors of a product may be exchanged
 pub product_comm : (s t : Sign) → product s t ≡ product t s
 product_comm s t = grind arith
 
+-- a product of three signs may be bracketed on the left or on the right
 pub product_assoc : (s t u : Sign) → product (product s t) u ≡ product s (product t u)
 product_assoc s t u = grind arith
 
+-- the first two of three factors may be exchanged
 pub product_left_comm : (s t u : Sign) → product s (product t u) ≡ product t (product s u)
 product_left_comm s t u = grind arith
 
+-- the opposite of a left factor makes the product opposite
 pub product-opposite_left : (s t : Sign) → product (opposite s) t ≡ opposite (product s t)
 product-opposite_left s t = grind arith
 
+-- the opposite of a right factor makes the product opposite
 pub product-opposite_right : (s t : Sign) → product s (opposite t) ≡ opposite (product s t)
 product-opposite_right s t = grind arith
 
+-- the opposite of the opposite is the sign itself
 pub opposite-opposite : (s : Sign) → opposite (opposite s) ≡ s
 opposite-opposite s = grind arith
 
+-- a product with zero on the right is zero
 pub product-zero : (s : Sign) → product s Zero ≡ Zero
 product-zero s = grind arith
 
+-- a product with plus on the right is its left factor
 pub product-plus : (s : Sign) → product s Plus ≡ s
 product-plus s = grind arith
 
@@ -66,16 +81,20 @@ pub ruleset products = (
   product-plus,
 )
 
+-- if the left factor is plus, a product is its right factor
 pub product_plus_left : (s t : Sign) → s ≡ Plus → product s t ≡ t
 product_plus_left s t e = grind arith
 
+-- in a product of two products the two inner factors may be exchanged
 pub product_middle_exchange : (s t u v : Sign) → product (product s t) (product u v) ≡ product (product s u)
     (product t v)
 product_middle_exchange s t u v = simp products
 
+-- if the left factor is zero, so is the product
 pub product_zero_left : (s t : Sign) → s ≡ Zero → product s t ≡ Zero
 product_zero_left s t e = grind arith
 
+-- if the right factor is zero, so is the product
 pub product_zero_right : (s t : Sign) → t ≡ Zero → product s t ≡ Zero
 product_zero_right s t e = grind arith
 
@@ -83,41 +102,53 @@ product_zero_right s t e = grind arith
 pub products_zero : (s s' t t' : Sign) → s ≡ Zero → t' ≡ Zero → product s t ≡ product s' t'
 products_zero s s' t t' e f = grind arith
 
+-- the opposite of a nonzero sign is nonzero
 pub opposite_nonzero : (t : Sign) → t ≢ Zero → opposite t ≢ Zero
 opposite_nonzero t n = grind arith
 
+-- if a product is a nonzero sign, its left factor is nonzero
 pub left_nonzero : (s t u : Sign) → product s t ≡ u → u ≢ Zero → s ≢ Zero
 left_nonzero s t u e n = grind arith
 
+-- if a sign is zero, so is its opposite
 pub opposite_zero : (s : Sign) → s ≡ Zero → opposite s ≡ Zero
 opposite_zero s e = grind arith
 
+-- if the opposite of a sign is zero, so is the sign
 pub zero_from_opposite : (s : Sign) → opposite s ≡ Zero → s ≡ Zero
 zero_from_opposite s e = grind arith
 
+-- if s is the opposite of t, and t is zero, s is zero
 pub zero_if_opposite : (s t : Sign) → s ≡ opposite t → t ≡ Zero → s ≡ Zero
 zero_if_opposite s t e z = grind arith
 
+-- a sign that is neither plus nor minus is zero
 pub zero_if_neither : (s : Sign) → s ≢ Plus → s ≢ Minus → s ≡ Zero
 zero_if_neither Minus p m = absurd (m refl)
 zero_if_neither Zero p m = refl
 zero_if_neither Plus p m = absurd (p refl)
 
+-- a sign that is its own opposite is zero
 pub own_opposite : (s : Sign) → s ≡ opposite s → s ≡ Zero
 own_opposite s e = grind arith
 
+-- no sign is both zero and nonzero
 pub zero_not_nonzero : (s : Sign) → s ≡ Zero → s ≢ Zero → ⊥
 zero_not_nonzero s e n = n e
 
+-- if the opposite of a sign is nonzero, so is the sign
 pub nonzero_from_opposite : (t : Sign) → opposite t ≢ Zero → t ≢ Zero
 nonzero_from_opposite t n = grind arith
 
+-- the product of two nonzero signs is nonzero
 pub product_nonzero : (s t : Sign) → s ≢ Zero → t ≢ Zero → product s t ≢ Zero
 product_nonzero s t m n = grind arith
 
+-- if a product is a nonzero sign, its right factor is nonzero
 pub right_nonzero : (s t u : Sign) → product s t ≡ u → u ≢ Zero → t ≢ Zero
 right_nonzero s t u e n = grind arith
 
+-- two nonzero signs are equal or opposite
 pub equal_or_opposite : (s t : Sign) → s ≢ Zero → t ≢ Zero → (s ≡ t) ⊎ (s ≡ opposite t)
 equal_or_opposite Minus Minus m n = inl refl
 equal_or_opposite Minus Zero m n = absurd (n refl)
@@ -127,6 +158,7 @@ equal_or_opposite Plus Minus m n = inr refl
 equal_or_opposite Plus Zero m n = absurd (n refl)
 equal_or_opposite Plus Plus m n = inl refl
 
+-- to tell two cases apart: two signs are equal, or they aren't
 pub same_or_different : (s t : Sign) → (s ≡ t) ⊎ (s ≢ t)
 same_or_different Minus Minus = inl refl
 same_or_different Minus Zero = inr (λ e. cc)
@@ -138,62 +170,80 @@ same_or_different Plus Minus = inr (λ e. cc)
 same_or_different Plus Zero = inr (λ e. cc)
 same_or_different Plus Plus = inl refl
 
+-- to tell two cases apart: a sign is minus, or it isn't
 pub minus_or_not : (s : Sign) → (s ≡ Minus) ⊎ (s ≢ Minus)
 minus_or_not s = same_or_different s Minus
 
+-- to tell two cases apart: a sign is the opposite of another, or it isn't
 pub opposite_or_not : (s t : Sign) → (s ≡ opposite t) ⊎ (s ≡ opposite t → ⊥)
 opposite_or_not s t = same_or_different s (opposite t)
 
+-- a nonzero sign isn't its own opposite
 pub not_own_opposite : (t : Sign) → t ≢ Zero → t ≡ opposite t → ⊥
 not_own_opposite t n e = grind arith
 
+-- a sign that is its own opposite isn't minus
 pub own_opposite_not_minus : (s : Sign) → s ≡ opposite s → s ≢ Minus
 own_opposite_not_minus s e m = grind arith
 
+-- if s is the opposite of t, and t is plus, s is minus
 pub minus_if_opposite_plus : (s t : Sign) → s ≡ opposite t → t ≡ Plus → s ≡ Minus
 minus_if_opposite_plus s t e p = grind arith
 
+-- if s is the opposite of t, and t the opposite of u, s equals u
 pub equal_if_twice_opposite : (s t u : Sign) → s ≡ opposite t → t ≡ opposite u → s ≡ u
 equal_if_twice_opposite s t u e f = grind arith
 
+-- if s is the opposite of t, and t is nonzero, s is nonzero
 pub nonzero_if_opposite : (s t : Sign) → s ≡ opposite t → t ≢ Zero → s ≢ Zero
 nonzero_if_opposite s t e n = grind arith
 
+-- if s is the opposite of t, and s is nonzero, t is nonzero
 pub nonzero_of_opposite : (s t : Sign) → s ≡ opposite t → s ≢ Zero → t ≢ Zero
 nonzero_of_opposite s t e n = grind arith
 
+-- no sign is both zero and minus
 pub not_zero_and_minus : (s : Sign) → s ≡ Zero → s ≡ Minus → ⊥
 not_zero_and_minus s a b = grind arith
 
+-- no sign is both plus and minus
 pub not_plus_and_minus : (s : Sign) → s ≡ Plus → s ≡ Minus → ⊥
 not_plus_and_minus s a b = grind arith
 
+-- the first nonzero one of a sign and zero is the sign, be it zero itself
 pub first_nonzero-zero : (s : Sign) → first_nonzero s Zero ≡ s
 first_nonzero-zero s = grind arith
 
+-- the first nonzero one of two signs is the second one, if the first is zero
 pub first_nonzero_right : (s t : Sign) → s ≡ Zero → first_nonzero s t ≡ t
 first_nonzero_right s t e = grind arith
 
+-- the first nonzero one of two signs is the first one, if that is nonzero
 pub first_nonzero_left : (s t : Sign) → s ≢ Zero → first_nonzero s t ≡ s
 first_nonzero_left s t n = grind arith
 
+-- the first nonzero one of two signs isn't zero, if the first sign isn't
 pub first_nonzero_from_left : (s t : Sign) → s ≢ Zero → first_nonzero s t ≢ Zero
 first_nonzero_from_left s t n = grind arith
 
+-- the first nonzero one of two signs isn't zero, if the second sign isn't
 pub first_nonzero_from_right : (s t : Sign) → t ≢ Zero → first_nonzero s t ≢ Zero
 first_nonzero_from_right s t n = grind arith
 
+-- if the first nonzero one of two signs isn't zero, one of the two isn't
 pub nonzero_either : (s t : Sign) → first_nonzero s t ≢ Zero → (s ≢ Zero) ⊎ (t ≢ Zero)
 nonzero_either Minus t n = inl minus_nonzero
 nonzero_either Zero t n = inr n
 nonzero_either Plus t n = inl plus_nonzero
 
+-- of two signs, not both zero, the first nonzero one: the first if it is nonzero, and else the second
 pub first_nonzero_cases : (s t : Sign) → first_nonzero s t ≢ Zero → ((s ≢ Zero) × (first_nonzero s t ≡ s))
     ⊎ ((s ≡ Zero) × (t ≢ Zero) × (first_nonzero s t ≡ t))
 first_nonzero_cases Minus t n = inl (minus_nonzero, refl)
 first_nonzero_cases Zero t n = inr (refl, n, refl)
 first_nonzero_cases Plus t n = inl (plus_nonzero, refl)
 
+-- if the first nonzero one of two signs is zero, both are zero
 pub first_nonzero_zero : (s t : Sign) → first_nonzero s t ≡ Zero → (s ≡ Zero) × (t ≡ Zero)
 first_nonzero_zero Minus t e = absurd (minus_nonzero e)
 first_nonzero_zero Zero t e = (refl, e)
@@ -211,34 +261,43 @@ first_of_two Plus Minus z n (inr e) o = absurd (o plus_nonzero refl)
 first_of_two Plus Zero z n (inr e) o = absurd (n e)
 first_of_two Plus Plus z n (inr e) o = e
 
+-- no sign is both equal and opposite to a nonzero one
 pub equal_not_opposite : (s t : Sign) → s ≡ t → s ≡ opposite t → t ≢ Zero → ⊥
 equal_not_opposite s t a b n = grind arith
 
+-- if s is the opposite of t, then t is the opposite of s
 pub opposite_swap : (s t : Sign) → s ≡ opposite t → t ≡ opposite s
 opposite_swap s t e = grind arith
 
+-- if the opposite of s is t, then s is the opposite of t
 pub opposite_back : (s t : Sign) → opposite s ≡ t → s ≡ opposite t
 opposite_back s t e = grind arith
 
+-- the first nonzero one of two signs is one of the two
 pub first_nonzero_either : (s t : Sign) → (first_nonzero s t ≡ s) ⊎ (first_nonzero s t ≡ t)
 first_nonzero_either Minus t = inl refl
 first_nonzero_either Zero t = inr refl
 first_nonzero_either Plus t = inl refl
 
+-- a nonzero sign is plus or minus
 pub plus_or_minus : (s : Sign) → s ≢ Zero → (s ≡ Plus) ⊎ (s ≡ Minus)
 plus_or_minus Minus n = inr refl
 plus_or_minus Zero n = absurd (n refl)
 plus_or_minus Plus n = inl refl
 
+-- if a product isn't zero, its left factor isn't
 pub left_factor_nonzero : (s t : Sign) → product s t ≢ Zero → s ≢ Zero
 left_factor_nonzero s t n = grind arith
 
+-- if a product isn't zero, its right factor isn't
 pub right_factor_nonzero : (s t : Sign) → product s t ≢ Zero → t ≢ Zero
 right_factor_nonzero s t n = grind arith
 
+-- if a product is zero and its left factor isn't, its right factor is zero
 pub right_factor_zero : (s t : Sign) → s ≢ Zero → product s t ≡ Zero → t ≡ Zero
 right_factor_zero s t n e = grind arith
 
+-- products with equal factors are equal
 pub product-same : {s t u v : Sign} → s ≡ u → t ≡ v → product s t ≡ product u v
 product-same {s} {t} {u} {v} e f = ap (λ k. product k t) e ∙ ap (product u) f
 
@@ -246,24 +305,31 @@ product-same {s} {t} {u} {v} e f = ap (λ k. product k t) e ∙ ap (product u) f
 pub product_turned_left : (s s' t : Sign) → s' ≡ opposite s → product s' t ≡ opposite (product s t)
 product_turned_left s s' t e = grind arith
 
+-- with the opposite of t in place of t on the right, a product becomes opposite
 pub product_turned_right : (s t t' : Sign) → t' ≡ opposite t → product s t' ≡ opposite (product s t)
 product_turned_right s t t' e = grind arith
 
+-- the same, with the factors of the old product exchanged
 pub product_turned_comm : (s t t' : Sign) → t' ≡ opposite t → product s t' ≡ opposite (product t s)
 product_turned_comm s t t' e = grind arith
 
+-- with the opposites of both factors a product stays the same
 pub product_turned_both : (s s' t t' : Sign) → s' ≡ opposite s → t' ≡ opposite t → product s' t' ≡ product s t
 product_turned_both s s' t t' e f = grind arith
 
+-- if the product with the opposite of s is u, the product with s is the opposite of u
 pub product_turned_out : (s t u : Sign) → product (opposite s) t ≡ u → product s t ≡ opposite u
 product_turned_out s t u e = grind arith
 
+-- if the product with s is the opposite of u, the product with the opposite of s is u
 pub product_turned_in : (s t u : Sign) → product s t ≡ opposite u → product (opposite s) t ≡ u
 product_turned_in s t u e = grind arith
 
+-- a nonzero factor that occurs twice may be left out
 pub product_twice : (s t : Sign) → s ≢ Zero → product s (product s t) ≡ t
 product_twice s t n = grind arith
 
+-- the product of a nonzero sign with itself is plus
 pub product_square : (s : Sign) → s ≢ Zero → product s s ≡ Plus
 product_square s n = grind arith
 
@@ -271,21 +337,27 @@ product_square s n = grind arith
 pub square_times_own_opposite : (s t : Sign) → t ≡ opposite t → product (product s s) t ≢ Minus
 square_times_own_opposite s t e m = grind arith
 
+-- signs whose product is plus are equal
 pub equal_if_product_plus : (s t : Sign) → product s t ≡ Plus → s ≡ t
 equal_if_product_plus s t e = grind arith
 
+-- signs whose product is minus are opposite
 pub opposite_if_product_minus : (s t : Sign) → product s t ≡ Minus → s ≡ opposite t
 opposite_if_product_minus s t e = grind arith
 
+-- the product of opposite signs is minus, if they are nonzero
 pub product_minus_if_opposite : (s t : Sign) → s ≢ Zero → s ≡ opposite t → product s t ≡ Minus
 product_minus_if_opposite s t n e = grind arith
 
+-- a factor is multiplied into the first nonzero one of two signs
 pub product-first_nonzero : (s t u : Sign) → product s (first_nonzero t u)
     ≡ first_nonzero (product s t) (product s u)
 product-first_nonzero s t u = grind arith
 
+-- the product of the opposites of two signs is that of the signs
 pub product_opposites : (s t : Sign) → product (opposite s) (opposite t) ≡ product s t
 product_opposites s t = grind arith
 
+-- of two zeros each is the opposite of the other
 pub zeros_opposite : (s t : Sign) → s ≡ Zero → t ≡ Zero → s ≡ opposite t
 zeros_opposite s t a b = grind arith
