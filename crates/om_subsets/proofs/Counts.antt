@@ -7,18 +7,22 @@ use Rattle.std.proofs.Common.{ℕ, zero, suc, ◌≡◌, ◌+◌, ◌<◌, ◌�
 use Rattle.std.proofs.lemmas.Bool.{cases_lt}
 use Rattle.om_subsets.specs.Subsets.{choose, IsSubsetFrom}
 
+-- there is one way to choose none of n
 pub choose_none : (n : ℕ) → choose n zero ≡ 1
 choose_none zero = refl
 choose_none (suc n) = refl
 
+-- there are n ways to choose one of n
 pub choose_one : (n : ℕ) → choose n 1 ≡ n
 choose_one zero = refl
 choose_one (suc n) = let a = choose_none n in let b = choose_one n in omega arith
 
+-- there are no fewer ways to choose r of one number more
 pub choose_more : (n r : ℕ) → choose n r ≤ choose (suc n) r
 choose_more n zero = let a = choose_none n in omega arith
 choose_more n (suc r) = omega arith
 
+-- there are no fewer ways to choose r of n than of m, if m is at most n
 pub choose_grows : (m n r : ℕ) → m ≤ n → choose m r ≤ choose n r
 choose_grows m zero r l = let e : m ≡ 0 = omega arith in rw e (omega arith)
 choose_grows m (suc n) r l = elim (cases_lt m (suc n)) [
@@ -33,5 +37,6 @@ subset_small low zero (x ∷ xs) h = absurd h
 subset_small low (suc n) (x ∷ xs) (inl (q, h)) = let k = subset_small (low + 1) n xs h in omega arith
 subset_small low (suc n) (x ∷ xs) (inr (q, h)) = let k = subset_small (low + 1) n (x ∷ xs) h in omega arith
 
+-- an increasing list of some of the numbers 1 to n doesn't have more than n
 pub too_long : (n : ℕ) (xs : List ℕ) → IsSubsetFrom 1 n xs → n < length xs → ⊥
 too_long n xs h l = let k = subset_small 1 n xs h in omega (arith, k, l)

@@ -93,6 +93,7 @@ same_members low (suc m) (x ∷ xs) (y ∷ ys) (inr a) (inl b) h k = let l =
     members_from (low + 1) m y (x ∷ xs) a.1 (k y (inl refl)) in let z = b.0 in absurd (omega arith)
 same_members low (suc m) (x ∷ xs) (y ∷ ys) (inr a) (inr b) h k = same_members (low + 1) m (x ∷ xs) (y ∷ ys) a.1 b.1 h k
 
+-- sets with the same n and the same list are the same
 pub same_chosen : (s t : Chosen) → s.n ≡ t.n → s.elements ≡ t.elements → s ≡ t
 same_chosen s t n e = ap (λ k. record { n = k; elements = s.elements }) n
     ∙ ap (λ xs. record { n = t.n; elements = xs }) e

@@ -22,6 +22,7 @@ choose-above (suc n) k =
     let b = ap (choose n) f ∙ choose-above n (suc k) in
     rw e (omega arith)
 
+-- there is one way to choose all
 pub choose_all : (n : ℕ) → choose n n ≡ 1
 choose_all zero = refl
 choose_all (suc n) =

@@ -82,6 +82,7 @@ pub record IsTurn (mask n : ℕ) : Type 0 where
   pub place : later n (members mask 1 n) ≡ choose (n - (trailing_zeros w32 mask + 1)) (length (members mask 1 n))
       + later n (members (bit_and mask (mask - 1)) 1 n)
 
+-- `mask & (mask - 1)`, for a mask other than 0, makes such a turn
 pub turn : (mask n : ℕ) → 0 < mask → mask < 2 ^ n → n ≤ MAX_PLACES → IsTurn mask n
 turn mask n some l h =
     let here = lowest mask n some l (bits_fit n h) in

@@ -12,6 +12,7 @@ use Rattle.om_subsets.specs.Subsets.{IsSubsetFrom, IsMember}
 use Rattle.om_subsets.specs.Members.{Chosen, IsSubsetMask, members, mask_of, mask_of-members, begins_with, tail}
 use Rattle.om_subsets.proofs.Edits.{member_bit}
 
+-- a mask of m bits, made from a list, is below 2 ^ m
 pub mask_of-lt : (e m : ℕ) (xs : List ℕ) → mask_of e xs m < 2 ^ m
 mask_of-lt e zero xs = omega arith
 mask_of-lt e (suc m) xs =
@@ -24,6 +25,7 @@ mask_of-lt e (suc m) xs =
       | false ↦ omega arith
     ]
 
+-- an increasing list that is made a mask has the same members again
 pub members-mask_of : (e m : ℕ) (xs : List ℕ) → IsSubsetFrom e m xs → members (mask_of e xs m) e m ≡ xs
 members-mask_of e zero [] h = refl
 members-mask_of e zero (x ∷ xs) h = absurd h

@@ -25,14 +25,17 @@ subset_wider low (suc m) (x ∷ xs) (inr (n, h)) = inr (n, subset_wider (low + 1
 pub not_later : (low m e : ℕ) (xs : List ℕ) → IsSubsetFrom (low + 1) m xs → e ≡ low → IsMember e xs → ⊥
 not_later low m e xs h q k = let b = (members_from (low + 1) m e xs h k).0 in omega (arith, b, q)
 
+-- a list of one number has no other member
 pub not_in_single : (x e : ℕ) → e ≢ x → IsMember e (x ∷ []) → ⊥
 not_in_single x e n (inl q) = n q
 not_in_single x e n (inr h) = h
 
+-- a list stays the same without a number that it doesn't have
 pub without_other : (e : ℕ) (xs : List ℕ) → (IsMember e xs → ⊥) → without_element e xs ≡ xs
 without_other e [] n = refl
 without_other e (x ∷ xs) n = rw (ne_eqb e x (λ q. n (inl q))) (ap (λ l. x ∷ l) (without_other e xs (λ k. n (inr k))))
 
+-- an increasing list without a number is an increasing list of some of the same m numbers
 pub subset_without : (low m e : ℕ) (ys : List ℕ) → IsSubsetFrom low m ys → IsSubsetFrom low m (without_element e ys)
 subset_without low m e [] h = tt
 subset_without low zero e (x ∷ xs) h = absurd h
@@ -52,6 +55,7 @@ with_below low m e (x ∷ xs) h l =
     let lt : e < x = omega arith in
     rw (ne_eqb e x ne, lt-ltb e x lt) refl
 
+-- a member that is left out and put back gives the same increasing list
 pub with_without : (low m e : ℕ) (xs : List ℕ) → IsSubsetFrom low m xs → IsMember e xs
     → with_element e (without_element e xs) ≡ xs
 with_without low m e [] h k = absurd k

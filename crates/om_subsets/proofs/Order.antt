@@ -10,6 +10,7 @@ use Rattle.std.proofs.lemmas.Bool.{cases_eq, cases_lt, eq-eqb, ne_eqb}
 use Rattle.om_subsets.specs.Subsets.{choose, subsets_from, rank_from, rank_of, IsSubsetFrom, IsMember, IsTriple}
 use Rattle.om_subsets.specs.Lists.{IsIncreasing, IsBefore}
 
+-- there are as many increasing lists of r of m numbers as ways to choose r of m
 pub length-subsets_from : (low m r : ℕ) → length (subsets_from low m r) ≡ choose m r
 length-subsets_from low zero zero = refl
 length-subsets_from low (suc m) zero = refl
@@ -22,6 +23,7 @@ length-subsets_from low (suc m) (suc r) =
       length-subsets_from (low + 1) m (suc r),
     ) refl
 
+-- the place of an increasing list is below the number of the lists of its size
 pub rank_from-lt : (low m : ℕ) (xs : List ℕ) → IsSubsetFrom low m xs → rank_from low m xs < choose m (length xs)
 rank_from-lt low zero [] h = omega arith
 rank_from-lt low zero (x ∷ xs) h = absurd h
@@ -68,6 +70,7 @@ pub same_place : (n : ℕ) (xs ys : List ℕ) → IsSubsetFrom 1 n xs → IsSubs
     → rank_of n xs ≡ rank_of n ys → xs ≡ ys
 same_place n xs ys hx hy l r = sym (get_or-rank_from 1 n xs hx) ∙ rw (l, r) (get_or-rank_from 1 n ys hy)
 
+-- two triples at one place are the same
 pub same_triple : (n : ℕ) (t u : List ℕ) → IsTriple n t → IsTriple n u → rank_of n t ≡ rank_of n u → t ≡ u
 same_triple n t u h k e = same_place n t u h.list k.list (h.size ∙ sym k.size) e
 
@@ -103,6 +106,7 @@ listed_back low m r k (x ∷ xs) h =
       place = rw (ne_eqb x low ne, s, h.place) refl;
     }
 
+-- at each place below the number of the lists of size r stands such a list
 pub listed : (low m r k : ℕ) → k < choose m r → IsListed low m r k (get_or (subsets_from low m r) k [])
 listed low zero zero zero l = record { lawful = tt; size = refl; place = refl }
 listed low zero zero (suc k) l = absurd (omega arith)
@@ -120,6 +124,7 @@ listed low (suc m) (suc r) k l = elim (cases_lt k (choose m r)) [
 
 -- ---- the lexicographic order
 
+-- of two increasing lists of one size, one comes before the other exactly if its place is lower
 pub lexicographic : (low m : ℕ) (xs ys : List ℕ) → IsSubsetFrom low m xs → IsSubsetFrom low m ys → length xs ≡ length ys
     → IsBefore xs ys ↔ (rank_from low m xs < rank_from low m ys)
 lexicographic low m [] [] hx hy l = (λ b. absurd b, λ b. absurd (omega arith))
@@ -158,6 +163,7 @@ lexicographic low (suc m) (x ∷ xs) (y ∷ ys) (inr (g, hx)) (inr (j, hy)) l =
 
 -- ---- increasing lists
 
+-- the members of an increasing list of some of the m numbers from low on are among these
 pub members_from : (low m e : ℕ) (xs : List ℕ) → IsSubsetFrom low m xs → IsMember e xs → (low ≤ e) × (e < low + m)
 members_from low m e [] h q = absurd q
 members_from low zero e (x ∷ xs) h q = absurd h
@@ -178,15 +184,18 @@ increasing low (suc m) (x ∷ xs) (inl (e, h)) =
     cons_increasing x xs (λ f q. let b = members_from (low + 1) m f xs h q in omega arith) (increasing (low + 1) m xs h)
 increasing low (suc m) (x ∷ xs) (inr (n, h)) = increasing (low + 1) m (x ∷ xs) h
 
+-- a list in which each number is below the next stays so without its first number
 pub increasing_tail : (x : ℕ) (xs : List ℕ) → IsIncreasing (x ∷ xs) → IsIncreasing xs
 increasing_tail x [] h = tt
 increasing_tail x (y ∷ ys) h = h.1
 
+-- if each number is below the next, the first is below every later one
 pub head_below : (x e : ℕ) (xs : List ℕ) → IsIncreasing (x ∷ xs) → IsMember e xs → x < e
 head_below x e [] h q = absurd q
 head_below x e (y ∷ ys) h (inl q) = let l = h.0 in omega arith
 head_below x e (y ∷ ys) h (inr q) = let l = h.0 in let i = head_below y e ys h.1 q in omega arith
 
+-- a list whose numbers increase, and are among the m from low on, fits the recursive definition
 pub from_increasing : (low m : ℕ) (xs : List ℕ) → IsIncreasing xs
     → ((e : ℕ) → IsMember e xs → (low ≤ e) × (e < low + m)) → IsSubsetFrom low m xs
 from_increasing low m [] h w = tt

@@ -21,6 +21,7 @@ use Rattle.om_subsets.specs.Members.{members, begins_with, begins_later}
 pub bits_fit : (n : ℕ) → n ≤ MAX_PLACES → n < 32
 bits_fit n l = omega arith
 
+-- the mask 0 has no members
 pub members-zero : (e m : ℕ) → members 0 e m ≡ []
 members-zero e zero = refl
 members-zero e (suc m) = members-zero (e + 1) m

@@ -14,6 +14,7 @@ use Rattle.om_subsets.proofs.OneElement.{later_list, subset_wider}
 
 -- ---- lists with and without their last number
 
+-- an increasing list of some of m numbers, with the next number z at its end, is one of some of m + 1
 pub subset_push : (low m z : ℕ) (ys : List ℕ) → z ≡ low + m → IsSubsetFrom low m ys
     → IsSubsetFrom low (suc m) (ys ++ z ∷ [])
 subset_push low zero z [] q h = inl (omega arith, tt)
@@ -31,6 +32,7 @@ pub record EndsWith (low m z : ℕ) (xs : List ℕ) : Type 0 where
 ended_later : (low m z : ℕ) (xs : List ℕ) → EndsWith (low + 1) m z xs → EndsWith low (suc m) z xs
 ended_later low m z xs h = record { front = h.front; whole = h.whole; lawful = later_list low m h.front h.lawful }
 
+-- an increasing list of some of m + 1 numbers has no z, the last of these, or it ends with z
 pub split_last : (low m z : ℕ) (xs : List ℕ) → z ≡ low + m → IsSubsetFrom low (suc m) xs → IsSubsetFrom low m xs
     ⊎ EndsWith low m z xs
 split_last low m z [] q h = inl tt
@@ -67,6 +69,7 @@ rank_ended n ys =
 
 -- ---- places
 
+-- there are as many lists in reverse lexicographic order as ways to choose r of n
 pub length-revlex_subsets : (n r : ℕ) → length (revlex_subsets n r) ≡ choose n r
 length-revlex_subsets zero zero = refl
 length-revlex_subsets (suc n) zero = refl
@@ -78,6 +81,7 @@ length-revlex_subsets (suc n) (suc r) =
     let d = length-revlex_subsets n r in
     omega arith
 
+-- the place of a list in reverse lexicographic order is below the number of the lists of its size
 pub reverse_small : (n : ℕ) (xs : List ℕ) → IsSubsetFrom 1 n xs → revlex_rank_of xs < choose n (length xs)
 reverse_small zero [] h = omega arith
 reverse_small zero (x ∷ xs) h = absurd h
@@ -144,6 +148,7 @@ listed_pushed n r k xs h = record {
   place = rank_ended n xs ∙ rw (h.size, h.place) refl;
 }
 
+-- in reverse lexicographic order too, at each place below the number of the lists stands such a list
 pub reverse_listed : (n r k : ℕ) → k < choose n r → IsReverseListed n r k (revlex_subset_at n r k)
 reverse_listed zero zero zero l = record { lawful = tt; size = refl; place = refl }
 reverse_listed zero zero (suc k) l = absurd (omega arith)

@@ -7,6 +7,7 @@ use Rattle.om_subsets.specs.Subsets.{rank_of, IsSubsetFrom, IsMember, with_eleme
 use Rattle.om_subsets.specs.Lists.{IsIncreasing, IsWithin, IsBefore}
 use Rattle.om_subsets.proofs.Order.{increasing, from_increasing, members_from, lexicographic}
 
+-- the recursive definition in plain words: each number is below the next, and all are from 1 to n
 pub subset_is_increasing : (n : ℕ) (xs : List ℕ) → IsSubsetFrom 1 n xs ↔ (IsIncreasing xs × IsWithin 1 n xs)
 subset_is_increasing n xs = (
   λ h. (increasing 1 n xs h, λ e q. let b = members_from 1 n e xs h q in (b.0, omega arith)),
@@ -25,6 +26,7 @@ next_place n xs ys hx hy l r = (
       omega arith,
 )
 
+-- a list with e put in has e and its old members, and no others
 pub members_with : (e f : ℕ) (xs : List ℕ) → IsMember f (with_element e xs) ↔ ((f ≡ e) ⊎ IsMember f xs)
 members_with e f [] = (λ h. h, λ h. h)
 members_with e f (x ∷ xs) = elim (cases_eq e x) [
@@ -50,6 +52,7 @@ members_with e f (x ∷ xs) = elim (cases_eq e x) [
     into i (inr (inl p)) = inl p
     into i (inr (inr p)) = inr (i.1 (inr p))
 
+-- a list with e left out has its old members other than e, and no others
 pub members_without : (e f : ℕ) (xs : List ℕ) → IsMember f (without_element e xs) ↔ ((f ≢ e) × IsMember f xs)
 members_without e f [] = (λ h. absurd h, λ h. h.1)
 members_without e f (x ∷ xs) = elim (cases_eq e x) [

@@ -41,6 +41,7 @@ rows_at (row ∷ rows) n (suc i) d t l =
 table_agrees : rows_agree BINOMIALS 0 ≡ true
 table_agrees = refl
 
+-- row n of the table, up to MAX_PLACES, has the number of ways to choose r of n at place r, for r up to n
 pub table_entry : (n r : ℕ) (d : List ℕ) (e : ℕ) → n ≤ MAX_PLACES → r ≤ n
     → get_or (get_or BINOMIALS n d) r e ≡ choose n r
 table_entry n r d e ln lr =
@@ -48,6 +49,7 @@ table_entry n r d e ln lr =
     let l : r < length (get_or BINOMIALS n d) = rw w.0 (omega arith) in
     row_at (get_or BINOMIALS n d) (0 + n) 0 r e w.1 l ∙ rw (zero-add n, zero-add r) refl
 
+-- there is no way to choose more than there are
 pub choose_above : (n r : ℕ) → n < r → choose n r ≡ 0
 choose_above n zero l = absurd (omega arith)
 choose_above zero (suc r) l = refl
@@ -78,6 +80,7 @@ small_rows (row ∷ rows) (suc i) d t h = small_rows rows i d (and_parts (row_sm
 table_small : rows_small BINOMIALS ≡ true
 table_small = refl
 
+-- up to MAX_PLACES there are at most MOST_SUBSETS ways to choose r of n
 pub choose_most : (n r : ℕ) → n ≤ MAX_PLACES → choose n r ≤ MOST_SUBSETS
 choose_most n r h = elim (cases_lt n r) [
   | inl lt ↦ rw (choose_above n r lt) (omega arith)

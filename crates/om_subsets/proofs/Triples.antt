@@ -16,6 +16,7 @@ use Rattle.om_subsets.proofs.Statements.{subset_is_increasing}
 
 -- ---- three elements in order
 
+-- three numbers from 1 to n, each below the next, are an increasing list of some of 1 to n
 pub triple_subset : (n a b c : ℕ) → 1 ≤ a → a < b → b < c → c ≤ n → IsSubsetFrom 1 n (a ∷ b ∷ c ∷ [])
 triple_subset n a b c low ab bc high = (subset_is_increasing n (a ∷ b ∷ c ∷ [])).1 ((ab, (bc, tt)), within)
   where
@@ -25,6 +26,7 @@ triple_subset n a b c low ab bc high = (subset_is_increasing n (a ∷ b ∷ c �
     within e (inr (inr (inl q))) = omega arith
     within e (inr (inr (inr q))) = absurd q
 
+-- three numbers from 1 to n, each below the next, are a triple
 pub triple_from : (n a b c : ℕ) → 1 ≤ a → a < b → b < c → c ≤ n → IsTriple n (a ∷ b ∷ c ∷ [])
 triple_from n a b c low ab bc high = record { list = triple_subset n a b c low ab bc high; size = refl }
 
@@ -44,11 +46,13 @@ rising_within i =
     let high = i.high in
     ((low, omega arith), (omega arith, omega arith), (omega arith, high))
 
+-- the three elements of a triple are in order, and are from 1 to n
 pub rising_of_triple : (n a b c : ℕ) → IsTriple n (a ∷ b ∷ c ∷ []) → IsRising n a b c
 rising_of_triple n a b c h =
     let i = (subset_is_increasing n (a ∷ b ∷ c ∷ [])).0 h.list in
     record { low = (i.1 a (inl refl)).0; first = i.0.0; second = i.0.1.0; high = (i.1 c (inr (inr (inl refl)))).1 }
 
+-- each triple is three elements from 1 to n, in order
 pub elements_of_triple : (n : ℕ) (t : List ℕ) → IsTriple n t → (a : ℕ) × (b : ℕ) × (c : ℕ) × (t ≡ a ∷ b ∷ c ∷ [])
     × IsRising n a b c
 elements_of_triple n [] h = let l = h.size in absurd (omega arith)
@@ -59,15 +63,19 @@ elements_of_triple n (a ∷ b ∷ c ∷ d ∷ ds) h = let l = h.size in absurd (
 
 -- ---- places
 
+-- the place of a triple is below the number of the triples
 pub place_below : (n : ℕ) (b : List ℕ) → IsTriple n b → rank_of n b < choose n 3
 place_below n b t = let l = rank_from-lt 1 n b t.list in let s = t.size in subst (λ k. rank_of n b < choose n k) s l
 
+-- at the place of a triple stands the triple
 pub triple_at_place : (n : ℕ) (b : List ℕ) → IsTriple n b → subset_at n 3 (rank_of n b) ≡ b
 triple_at_place n b t = ap (λ k. subset_at n k (rank_of n b)) (sym t.size) ∙ get_or-rank_from 1 n b t.list
 
+-- at each place below the number of the triples stands a triple
 pub triple_of_place : (n k : ℕ) → k < choose n 3 → IsTriple n (subset_at n 3 k)
 triple_of_place n k l = let h = listed 1 n 3 k l in record { list = h.lawful; size = h.size }
 
+-- the triple that stands at a place has this place
 pub place_of_place : (n k : ℕ) → k < choose n 3 → rank_of n (subset_at n 3 k) ≡ k
 place_of_place n k l = (listed 1 n 3 k l).place
 
@@ -79,6 +87,7 @@ HoldsBelow P n k = (j : ℕ) → j < k → P (subset_at n 3 j)
 pub held : (P : List ℕ → Type 0) (n k : ℕ) → HoldsBelow P n k → (t : List ℕ) → IsTriple n t → rank_of n t < k → P t
 held P n k h t i l = subst P (triple_at_place n t i) (h (rank_of n t) l)
 
+-- what holds of the triples of all places holds of all triples
 pub held_all : (P : List ℕ → Type 0) (n k : ℕ) → choose n 3 ≤ k → HoldsBelow P n k → (t : List ℕ) → IsTriple n t → P t
 held_all P n k most h t i = held P n k h t i (let few = place_below n t i in omega arith)
 
