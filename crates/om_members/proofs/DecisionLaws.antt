@@ -16,35 +16,42 @@ use Rattle.om_members.proofs.ScanLaws.{nth_contained, contains_nth}
 abbrev pub IsDecided : Type 0 → Type 0
 IsDecided P = P ⊎ (P → ⊥)
 
+-- what is decided and isn't false holds
 pub not_false : (P : Type 0) → IsDecided P → ((P → ⊥) → ⊥) → P
 not_false P (inl p) n = p
 not_false P (inr q) n = absurd (n q)
 
+-- whether one of two statements holds is decided, if each of the two is
 pub decided_either : (P Q : Type 0) → IsDecided P → IsDecided Q → IsDecided (P ⊎ Q)
 decided_either P Q (inl p) e = inl (inl p)
 decided_either P Q (inr n) (inl q) = inl (inr q)
 decided_either P Q (inr n) (inr m) = inr (λ h. elim h [ inl p ↦ n p | inr q ↦ m q ])
 
+-- whether one statement implies another is decided, if each of the two is
 pub decided_if : (P Q : Type 0) → IsDecided P → IsDecided Q → IsDecided (P → Q)
 decided_if P Q (inr n) e = inl (λ p. absurd (n p))
 decided_if P Q (inl p) (inl q) = inl (λ r. q)
 decided_if P Q (inl p) (inr m) = inr (λ h. m (h p))
 
+-- whether two statements both hold is decided, if each of the two is
 pub decided_both : (P Q : Type 0) → IsDecided P → IsDecided Q → IsDecided (P × Q)
 decided_both P Q (inl p) (inl q) = inl (p, q)
 decided_both P Q (inl p) (inr m) = inr (λ h. m h.1)
 decided_both P Q (inr n) e = inr (λ h. n h.0)
 
+-- whether a statement is false is decided, if the statement is
 pub decided_not : (P : Type 0) → IsDecided P → IsDecided (P → ⊥)
 decided_not P (inl p) = inr (λ n. n p)
 decided_not P (inr n) = inl n
 
+-- of two statements that imply each other, the second is decided if the first is
 pub decided_same : (P Q : Type 0) → (P → Q) → (Q → P) → IsDecided P → IsDecided Q
 decided_same P Q f g (inl p) = inl (f p)
 decided_same P Q f g (inr n) = inr (λ q. n (g q))
 
 -- ---- signs and vectors
 
+-- whether two vectors are equal is decided
 pub same_vector : (X Y : List Sign) → IsDecided (X ≡ Y)
 same_vector [] [] = inl refl
 same_vector [] (t ∷ Y) = inr (λ e. cc)
@@ -100,6 +107,7 @@ some_member members P d = elim (some_below (length members) (λ k. P (nth member
   | inr n ↦ inr (λ h. n (h.1.0, h.1.1, subst P (sym (nth_contained members h.0 h.1)) h.2))
 ]
 
+-- whether a vector is a member of a list is decided
 pub is_contained : (members : List (List Sign)) (X : List Sign) → IsDecided (Contains members X)
 is_contained members X =
     elim (some_below (length members) (λ k. nth members k ≡ X) (λ k. same_vector (nth members k) X)) [

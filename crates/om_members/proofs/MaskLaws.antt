@@ -37,13 +37,16 @@ bit_of_mask xs P m h off i = elim (cases_lt i (length xs)) [
   | inr ge ↦ (λ one. absurd (let z = bit_at_above m (length xs) i h.within ge in omega arith), λ p. absurd (off i ge p))
 ]
 
+-- a bit of the mask of the support is 1 exactly if the sign at its place isn't zero
 pub support_bit : (xs : List Sign) (m : ℕ) → IsMaskOf (length xs) (IsInSupport xs) m → (i : ℕ) → (bit_at m i ≡ 1)
     ↔ IsInSupport xs i
 support_bit xs m h = bit_of_mask xs (IsInSupport xs) m h (λ i ge n. n (get_or_past xs i Zero ge))
 
+-- a bit of the mask of the pluses is 1 exactly if the sign at its place is plus
 pub plus_bit : (xs : List Sign) (m : ℕ) → IsMaskOf (length xs) (IsPlus xs) m → (i : ℕ) → (bit_at m i ≡ 1) ↔ IsPlus xs i
 plus_bit xs m h = bit_of_mask xs (IsPlus xs) m h (λ i ge p. let e = sym (get_or_past xs i Zero ge) ∙ p in cc)
 
+-- a bit of the mask of the minuses is 1 exactly if the sign at its place is minus
 pub minus_bit : (xs : List Sign) (m : ℕ) → IsMaskOf (length xs) (IsMinus xs) m → (i : ℕ) → (bit_at m i ≡ 1)
     ↔ IsMinus xs i
 minus_bit xs m h = bit_of_mask xs (IsMinus xs) m h (λ i ge p. let e = sym (get_or_past xs i Zero ge) ∙ p in cc)

@@ -7,14 +7,17 @@ use Rattle.std.proofs.Common.{ℕ, ◌≡◌, ◌<◌, ◌⊎◌, List, [], ◌�
 use Rattle.std.proofs.lemmas.Bool.{cases_lt, cases_order}
 use Rattle.om_members.specs.Positions.{IsBefore}
 
+-- if of two lists with the same first number one is before the other, so it is with what follows
 pub same_number : (a : ℕ) (xs ys : List ℕ) → IsBefore (a ∷ xs) (a ∷ ys) → IsBefore xs ys
 same_number a xs ys (inl lt) = absurd (omega arith)
 same_number a xs ys (inr r) = r.1
 
+-- a list isn't before one whose first number is smaller
 pub greater_number : (a b : ℕ) (xs ys : List ℕ) → b < a → IsBefore (a ∷ xs) (b ∷ ys) → ⊥
 greater_number a b xs ys l (inl lt) = absurd (omega arith)
 greater_number a b xs ys l (inr r) = let e = r.0 in absurd (omega arith)
 
+-- if of two lists of one number each one is before the other, its number is smaller
 pub last_number : (x y : ℕ) → IsBefore (x ∷ []) (y ∷ []) → x < y
 last_number x y (inl lt) = lt
 last_number x y (inr r) = absurd r.1

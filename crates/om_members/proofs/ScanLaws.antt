@@ -13,13 +13,16 @@ use Rattle.om_members.specs.Listings.{HaveLength}
 use Rattle.om_members.specs.Positions.{IsPosition}
 use Rattle.om_members.specs.Scans.{nth, AllBelow}
 
+-- a member that a loop reads is the one at its place
 pub nth_read : (members : List (List Sign)) (k : ℕ) (x : List Sign) → k < length members → x ≡ get_or members k x
     → nth members k ≡ x
 nth_read members k x lt e = get_or_default members k [] x lt ∙ sym e
 
+-- a member stands at the place at which the list is said to contain it
 pub nth_contained : (members : List (List Sign)) (X : List Sign) (h : Contains members X) → nth members h.0 ≡ X
 nth_contained members X h = get_or_default members h.0 [] X h.1 ∙ h.2
 
+-- what stands at a place of the list is a member
 pub contains_nth : (members : List (List Sign)) (k : ℕ) → k < length members → Contains members (nth members k)
 contains_nth members k lt = (k, lt, get_or_default members k (nth members k) [] lt)
 
@@ -36,6 +39,7 @@ pairs_of_members members P h X Y x y =
     subst (λ Z. P Z Y) (nth_contained members X x)
     (subst (λ Z. P (nth members x.0) Z) (nth_contained members Y y) (h x.0 x.1 y.0 y.1))
 
+-- if all members have n signs, so has each single one
 pub length_of_member : (n : ℕ) (members : List (List Sign)) → HaveLength n members → (X : List Sign)
     → Contains members X → length X ≡ n
 length_of_member n members lengths X m = All-contains (λ Y. length Y ≡ n) members X lengths m
