@@ -37,6 +37,7 @@ narrow_between z h = omega (arith, ints)
 narrow_difference : (a b : ℤ) → IsBetween a → IsBetween b → IsNarrow (a -ℤ b)
 narrow_difference a b h l = omega (arith, ints)
 
+-- the product of two numbers of 64 bits fits 128 bits
 pub short_product : (a b : ℤ) → IsShort a → IsShort b → IsNarrow (a *ℤ b)
 short_product a b h l = narrow_between (a *ℤ b) (product_ends a b h l)
 
