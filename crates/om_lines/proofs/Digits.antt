@@ -23,6 +23,7 @@ ten_small (suc (suc (suc (suc zero)))) h = omega arith
 ten_small (suc (suc (suc (suc (suc zero))))) h = omega arith
 ten_small (suc (suc (suc (suc (suc (suc k)))))) h = absurd (omega arith)
 
+-- each byte of a word of digits is from `0` to `9`
 pub digit_at : (w : List ℕ) (i : ℕ) → list_all is_digit w ≡ true → i < length w → (48 ≤ get_or w i 0)
     × (get_or w i 0 ≤ 57)
 digit_at [] i h l = absurd (omega arith)
@@ -53,12 +54,14 @@ up_to_within limit n = elim (cases_Bool (nat_le n limit)) [
   | inr e ↦ rw e tt
 ]
 
+-- the number that a word spells, if it spells one, is at most the limit
 pub unsigned_within : (limit : ℕ) (w : List ℕ) → IfSome (unsigned limit w) (λ k. k ≤ limit)
 unsigned_within limit w = elim (cases_Bool (is_decimal w)) [
   | inl e ↦ rw e (up_to_within limit (number_from 0 w))
   | inr e ↦ rw e tt
 ]
 
+-- the number with or without a `-` that a word spells, if any, is at most the limit in absolute value
 pub signed_within : (limit : ℕ) (w : List ℕ) → IfSome (signed limit w) (λ z. unsigned_abs z ≤ limit)
 signed_within limit w = elim (cases_Bool (begins_with 45 w)) [
   | inl e ↦ rw e (below (unsigned limit (drop 1 w)) (unsigned_within limit (drop 1 w)))
