@@ -11,6 +11,7 @@ use Rattle.std.proofs.lemmas.List.{take_at, take-append-le, drop-drop}
 use Rattle.std.proofs.Math.Seq.{take-add}
 use Rattle.om_port.specs.Causes.{TakesExactly, TakesAtMost, TakesAtLeast}
 
+-- two reads, one after the other, take the bytes of both from the known ones
 pub Consumes-then : (a b c : Option (List ℕ)) (xs ys : List ℕ) → Consumes a b xs → Consumes b c ys
     → Consumes a c (xs ++ ys)
 Consumes-then None b c xs ys h k = h
@@ -18,6 +19,7 @@ Consumes-then (Some a) None c xs ys h k = absurd h
 Consumes-then (Some a) (Some b) None xs ys h k = absurd k
 Consumes-then (Some a) (Some b) (Some c) xs ys h k = h ∙ rw (k, append_assoc) refl
 
+-- two writes, one after the other, add the bytes of both to the known ones
 pub Appends-then : (a b c : Option (List ℕ)) (xs ys : List ℕ) → Appends a b xs → Appends b c ys → Appends a c (xs ++ ys)
 Appends-then None b c xs ys h k = h
 Appends-then (Some a) None c xs ys h k = absurd h
@@ -69,6 +71,7 @@ taken_at_most a b c xs buf k n h h2 fits e =
     let t = length-take k buf in
     (xs ++ take k buf, Consumes-then a b c xs (take k buf) h h2, omega arith)
 
+-- if with the bytes of another read there are n or more, at least n bytes were taken
 pub taken_at_least : (a b c : Option (List ℕ)) (xs buf : List ℕ) (k n : ℕ) → Consumes a b xs → Consumes b c (take k buf)
     → k ≤ length buf → n ≤ length xs + k → TakesAtLeast n a c
 taken_at_least a b c xs buf k n h h2 fits e =
