@@ -177,6 +177,7 @@ module _ (m : SignMap) (chirotope : IsChirotope m) (list : List Signed) (entries
       own t = alternating_equal (on_tuples (m.elements + 1) m.rank ext) ext
           (on_tuples_alternating (m.elements + 1) m.rank ext) ext_alternating on_increasing t
 
+  -- the map with the signs of a lexicographic extension of a chirotope is a chirotope
   pub lexicographic_axioms : IsChirotope extended
   lexicographic_axioms =
       chirotope_by extended ext
@@ -189,6 +190,7 @@ module _ (m : SignMap) (chirotope : IsChirotope m) (list : List Signed) (entries
       (λ e k. let b = element_from_member m.elements e k in let c = b.0 in let d = b.1 in
       member_from_element (m.elements + 1) e (c, omega (arith, d))))
 
+  -- the map with these signs is a lexicographic extension by the list
   pub is_extension : IsLexicographicExtension m list extended
   is_extension = record {
     rank = refl;
@@ -203,6 +205,7 @@ module _ (m : SignMap) (chirotope : IsChirotope m) (list : List Signed) (entries
 
 -- ---- one extension
 
+-- two lexicographic extensions of one map by one list are the same
 pub same_extensions : (m x y : SignMap) (list : List Signed) → IsMap x → IsMap y → IsLexicographicExtension m list x
     → IsLexicographicExtension m list y → x ≡ y
 same_extensions m x y list wx wy ex ey =
