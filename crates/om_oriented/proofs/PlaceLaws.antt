@@ -16,6 +16,7 @@ use Rattle.om_signs.specs.SignVec.{at}
 use Rattle.om_signs.specs.Order.{sign_rank, sign_order, lexicographic}
 use Rattle.om_oriented.specs.Places.{base_three}
 
+-- the place of a vector is below 3 to the power of its length
 pub base_three-lt : (xs : List Sign) → base_three xs < 3 ^ length xs
 base_three-lt [] = omega arith
 base_three-lt (x ∷ xs) = step x (base_three xs) (length xs) (base_three-lt xs)
@@ -48,6 +49,7 @@ level x y n m a b e h = h ∙ ap (λ k. y * 3 ^ k + b) (sym e)
 below_level : (n m b : ℕ) → n ≡ m → b < 3 ^ m → b < 3 ^ n
 below_level n m b e l = rw e l
 
+-- vectors of one length with one place are equal
 pub same_place : (xs ys : List Sign) → length xs ≡ length ys → base_three xs ≡ base_three ys → xs ≡ ys
 same_place [] [] l e = refl
 same_place [] (y ∷ ys) l e = absurd (omega arith)
@@ -75,6 +77,7 @@ digits_before Plus Minus a b p o la lb e h = cc
 digits_before Plus Zero a b p o la lb e h = cc
 digits_before Plus Plus a b p o la lb e h = let i = h e in omega arith
 
+-- of two vectors of one length, the one that comes first has the lower place
 pub before_lt : (xs ys : List Sign) → length xs ≡ length ys → lexicographic xs ys ≡ Less → base_three xs < base_three ys
 before_lt [] [] l e = cc
 before_lt [] (y ∷ ys) l e = absurd (omega arith)
