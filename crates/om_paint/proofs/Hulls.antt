@@ -137,6 +137,7 @@ module _ (m : SignMap) (chirotope : IsChirotope m) where
         λ t. product_to m.elements X Plus (size_of X c) plus_nonzero p.0 p.1,
       ))
 
+  -- of a chirotope, the vector of pluses is a covector exactly if each circuit has a minus
   pub acyclic_both : IsCovectorOfChirotope m (all_plus m.elements) ↔ ((X : List Sign) → IsPositiveCircuit m X → ⊥)
   acyclic_both = (no_positive, covector_of_none)
 
@@ -162,6 +163,7 @@ module _ (m : SignMap) (chirotope : IsChirotope m) where
         (cases_eq f e);
   }
 
+  -- with e green and all others red, the painting at e is a cocircuit exactly if e is extreme
   pub extreme_item : (e : ℕ) → 1 ≤ e → e ≤ m.elements → (item : Painted) → IsPaintingOf m (green_alone e) e item
       → IsCocircuitItem item ↔ IsExtreme m e
   extreme_item e low high (Circuit X) h = (λ a. absurd a, λ k. k X h.member.circuit (only_minus e low high X h.member))
@@ -240,6 +242,7 @@ module _ (m : SignMap) (chirotope : IsChirotope m) where
 
 -- ---- the list of items
 
+-- each item still has the property, with one more at the end that has it for the next element
 pub item_more : (P : ℕ → Painted → Type 0) (e : ℕ) (items : List Painted) (x : Painted) → EachItem P e items
     → P (e + length items) x → EachItem P e (items ++ x ∷ [])
 item_more P e [] x h p = (let q : e + 0 ≡ e = omega arith in subst (λ k. P k x) q p, tt)

@@ -23,6 +23,7 @@ use Rattle.om_paint.proofs.FirstVectors.{first_same}
 
 -- ---- first members
 
+-- a family has one first member at most
 pub one_first : (P : List Sign → Type 0) (X Y : List Sign) → IsFirst P X → IsFirst P Y → X ≡ Y
 one_first P X Y h k = by_order (lexicographic X Y) refl
   where
@@ -32,6 +33,7 @@ one_first P X Y h k = by_order (lexicographic X Y) refl
     by_order Greater e = absurd (h.first Y k.member (lexicographic-total.antisymm Y X ∙ ap ordering_reverse e))
 
 module _ (m : SignMap) (colour : ℕ → Colour) (e : ℕ) where
+  -- a map, a colouring and an element have one painting at most
   pub one_painting : (x y : Painted) → IsPaintingOf m colour e x → IsPaintingOf m colour e y → x ≡ y
   one_painting (Circuit X) (Circuit Y) h k = ap Circuit (one_first _ X Y h k)
   one_painting (Circuit X) (Cocircuit Y) h k = absurd (k.0 X h.member)
