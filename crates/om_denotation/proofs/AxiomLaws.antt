@@ -32,6 +32,7 @@ use Rattle.om_denotation.proofs.FunctionLaws.{listed, unlisted, zero_function, n
 
 -- ---- support
 
+-- the functions of members with n signs are zero off the elements 1 to n
 pub supported : (n : ℕ) (members : List (List Sign)) → HaveLength n members
     → AreSupportedOn (elements_to n) (as_functions members)
 supported n members lengths f h e k =
@@ -87,6 +88,7 @@ module _ (members : List (List Sign)) (axioms : MeetsCovectorAxioms members) whe
       → AreSeparatedAt f g e
   back_separation f g X Y p q e s = (subst IsNonzero (sym (p e)) s.0, p e ∙ s.1 ∙ ap opposite (sym (q e)))
 
+  -- if the members meet the axioms of covectors, so does the family of their functions
   pub covector_axioms : CovectorAxioms (IsListed (as_functions members))
   covector_axioms = record {
     zero = let z = axioms.zero in listed members z.0 zero_vector z.1 (λ e. sym (zero_function z.0 z.2 e));

@@ -46,6 +46,7 @@ tuples_of m = on_tuples m.elements m.rank (chi_of m)
 
 -- ---- increasing lists
 
+-- the list of a set of the elements 1 to n increases from each entry to the next
 pub increasing_subset : (n : ℕ) (xs : List ℕ) → IsSubsetFrom 1 n xs → IsIncreasing xs
 increasing_subset n xs h = ((subset_is_increasing n xs).0 h).0
 
@@ -79,6 +80,7 @@ list_supported n X l (suc i) k = elim (cases_lt i n) [
 pub nonzero_function : (X : List Sign) → HasNonzero X → vectors.HasNonzero (as_function X)
 nonzero_function X (i, n) = (suc i, n)
 
+-- a list whose function is nonzero somewhere has a sign that isn't zero
 pub nonzero_list : (X : List Sign) → vectors.HasNonzero (as_function X) → HasNonzero X
 nonzero_list X (zero, n) = absurd (n refl)
 nonzero_list X (suc i, n) = (i, n)
@@ -156,6 +158,7 @@ module _ (m : SignMap) where
   larger_tuple : (s : List ℕ) → IsSubsetFrom 1 m.elements s → length s ≡ m.rank + 1 → IsTuple m.elements (suc m.rank) s
   larger_tuple s h l = to_tuple m.elements (suc m.rank) s h (omega arith)
 
+  -- a circuit of a map has a sign for each element
   pub circuit_length : (X : List Sign) → IsCircuitOfChirotope m X → length X ≡ m.elements
   circuit_length X c = up_to_sign_length m.elements (around (value_of m) c.tuple) X c.same
 
@@ -204,9 +207,11 @@ module _ (m : SignMap) where
   smaller_tuple : (a : List ℕ) → IsSubsetFrom 1 m.elements a → length a + 1 ≡ m.rank → IsTuple m.elements (m.rank - 1) a
   smaller_tuple a h l = to_tuple m.elements (m.rank - 1) a h (omega arith)
 
+  -- a cocircuit of a map has a sign for each element
   pub cocircuit_length : (X : List Sign) → IsCocircuitOfChirotope m X → length X ≡ m.elements
   cocircuit_length X c = up_to_sign_length m.elements (along (value_of m) c.tuple) X c.same
 
+  -- the function of a cocircuit is a cocircuit of the map on all lists
   pub cocircuit_function : (X : List Sign) → IsCocircuitOfChirotope m X → IsCocircuit (tuples_of m) (as_function X)
   cocircuit_function X c =
       let t = smaller_tuple c.tuple c.increasing c.size in
@@ -239,10 +244,12 @@ module _ (m : SignMap) where
                 (up_to_sign_list m.elements (along (tuples_of m) k.tuple) (along_supported k.tuple) X l k.same);
           }
 
+  -- a cocircuit of the map on all lists is zero off the elements
   pub cocircuit_supported : (F : SignVector) → IsCocircuit (tuples_of m) F → IsSupportedOn (elements_to m.elements) F
   cocircuit_supported F c e n =
       along_supported c.tuple e (nonzero_up_to_sign F (along (tuples_of m) c.tuple) c.same e n)
 
+  -- the signs at the elements of a cocircuit of the map on all lists are a cocircuit
   pub cocircuit_list : (F : SignVector) → IsCocircuit (tuples_of m) F → IsCocircuitOfChirotope m (as_list m.elements F)
   cocircuit_list F c = cocircuit_of_function (as_list m.elements F) (length-as_list m.elements F)
       (cocircuit_same (tuples_of m) (as_function (as_list m.elements F)) F
@@ -250,6 +257,7 @@ module _ (m : SignMap) where
 
   -- ---- covectors
 
+  -- the function of a covector is a covector of the map on all lists
   pub covector_function : (X : List Sign) → IsCovectorOfChirotope m X
       → IsCovector (elements_to m.elements) (tuples_of m) (as_function X)
   covector_function X c = record {
@@ -283,6 +291,7 @@ module _ (m : SignMap) where
         (orthogonal_sym (around (tuples_of m) s) (as_function X) o));
   }
 
+  -- the signs at the elements of a covector of the map on all lists are a covector
   pub covector_list : (F : SignVector) → IsCovector (elements_to m.elements) (tuples_of m) F
       → IsCovectorOfChirotope m (as_list m.elements F)
   covector_list F c = covector_of_function (as_list m.elements F) (length-as_list m.elements F)

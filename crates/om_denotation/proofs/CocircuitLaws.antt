@@ -72,6 +72,7 @@ module _ (n : ℕ) (members : List (List Sign)) (lengths : HaveLength n members)
       ↔ lists.HasConformingParts (IsLeast members) X
   least_parts = family_parts n (IsLeast members) (families.IsMinimal (IsListed (as_functions members))) least_functions
 
+  -- at each place of its support a member has the sign of a minimal member that conforms to it
   pub minimal_part : (X : List Sign) → Contains members X → (i : ℕ) → IsNonzero (at X i) → HasMinimalPart members X i
   minimal_part X m i k = let y = (least_parts X).0 ((parts_of_functions (as_function X)).0 (own members axioms X m)) i k
       in (y.0, y.1.0, y.1.1, y.2, y.3)
@@ -85,11 +86,13 @@ module _ (n : ℕ) (members : List (List Sign)) (lengths : HaveLength n members)
       complete = λ X d. contained_those (IsMinimal members) members cocircuits those X d.0 d.1;
     }
 
+    -- the minimal members meet the axioms of circuits
     pub minimal_axioms : MeetsCircuitAxioms cocircuits
     minimal_axioms = circuit_axioms (IsLeast members) cocircuits all_least
         (family_axioms n (IsLeast members) (families.IsMinimal (IsListed (as_functions members))) least_functions
         axioms_of_functions)
 
+    -- n signs are a member exactly where minimal members that conform to them give each sign of their support
     pub composed : (X : List Sign) → length X ≡ n → Contains members X
         ↔ lists.HasConformingParts (Contains cocircuits) X
     composed X l =
@@ -99,6 +102,7 @@ module _ (n : ℕ) (members : List (List Sign)) (lengths : HaveLength n members)
               (λ e. refl),
         )
 
+    -- the covectors of the minimal members, as cocircuits, are the members
     pub same_covectors : (d : Listing) → d.elements ≡ n → d.members ≡ cocircuits
         → DenoteTheSame n (Contains members) (IsCovectorOfCocircuits d)
     same_covectors d e q X l = (

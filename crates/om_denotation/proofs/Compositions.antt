@@ -74,6 +74,7 @@ module _ (members : List (List Sign)) (X : List Sign) (k : ℕ) (Z : List Sign) 
     now_nonzero i (inl z) nonzero q = nonzero (sym (from_zero i z) ∙ q)
     now_nonzero i (inr n) nonzero z = still_nonzero i n z
 
+    -- if the next member conforms to X, the composition goes on with this member behind Z
     pub one_more : (W : List Sign) → W ≡ compose Z Y → IsComposition members X (k + 1) W
     one_more W is = subst (IsComposition members X (k + 1)) (sym is) (record {
       size = length-compose Z Y (h.size ∙ sym l) ∙ h.size;

@@ -81,6 +81,7 @@ module _ (m : SignMap) (om : IsChirotope m) where
       by_leader (inr (inr z)) = absurd (not_all_zero (dual_of m) (dual_axioms m om).whole z (dual_axioms m om).nonzero)
 
   module _ (d : SignMap) (h : IsNormalFormOf (dual_of m) d) where
+    -- the circuits of a normal form of the dual are the cocircuits of the map
     pub circuit_both : (X : List Sign) → IsCircuitOfChirotope d X ↔ IsCocircuitOfChirotope m X
     circuit_both X =
         let a = circuits_up_to_sign (dual_of m) d h.same X in
@@ -93,6 +94,7 @@ module _ (m : SignMap) (om : IsChirotope m) where
         let b = cocircuit_of_dual X in
         (λ x. b.0 (a.1 x), λ x. a.0 (b.1 x))
 
+    -- a normal form of the dual of a chirotope is a chirotope
     pub axioms_of_dual : IsChirotope d
     axioms_of_dual = normal_axioms (dual_of m) d (dual_axioms m om) h
 
@@ -106,6 +108,7 @@ dual_same n P Q A B a b dual Y l = (
 
 -- ---- lists read as the other kind
 
+-- a list with the axioms of circuits denotes, as cocircuits, the dual of what it denotes as circuits
 pub dual_of_circuits : (c : Listing) → HaveLength c.elements c.members → MeetsCircuitAxioms c.members
     → IsDual c.elements (IsCovectorOfCircuits c) (IsCovectorOfCocircuits c)
 dual_of_circuits c lengths axioms = by_map (of_circuits c lengths axioms)
@@ -134,6 +137,7 @@ dual_of_circuits c lengths axioms = by_map (of_circuits c lengths axioms)
                   },
                 )
 
+-- a list with the axioms of circuits denotes, as circuits, the dual of what it denotes as cocircuits
 pub dual_of_cocircuits : (c : Listing) → HaveLength c.elements c.members → MeetsCircuitAxioms c.members
     → IsDual c.elements (IsCovectorOfCocircuits c) (IsCovectorOfCircuits c)
 dual_of_cocircuits c lengths axioms = by_map (of_cocircuits c lengths axioms)
@@ -167,6 +171,7 @@ least_same : (P Q : List Sign → Type 0) → ((X : List Sign) → P X ↔ Q X) 
 least_same P Q both X h =
     record { member = (both X).0 h.member; nonzero = h.nonzero; least = λ Y y. h.least Y ((both Y).1 y) }
 
+-- the circuits of a chirotope are the vectors of minimal support of a family that denotes the same
 pub circuits_of : (n : ℕ) (P : List Sign → Type 0) (m : SignMap) → IsChirotope m → m.elements ≡ n
     → DenoteTheSame n P (IsCovectorOfChirotope m)
     → (X : List Sign) → IsCircuitOfChirotope m X ↔ IsOfLeastSupport (IsVectorOf n P) X

@@ -39,6 +39,7 @@ module _ (m : SignMap) (om : IsChirotope m) where
   dual_tuples t = tuples_by (m.elements - m.rank) m.elements (dual_on_increasing m.elements (chi_of m)) t
       ∙ sym (dual_of_on_tuples m.elements m.rank (chi_of m) om.whole.part t)
 
+  -- the dual of a chirotope is a chirotope
   pub dual_axioms : IsChirotope (dual_of m)
   dual_axioms = chirotope_by (dual_of m) (dual_map (elements_to m.elements) (tuples_of m))
       (whole_by (m.elements - m.rank) m.elements (dual_on_increasing m.elements (chi_of m)) (omega arith))
@@ -124,5 +125,6 @@ module _ (m : SignMap) (om : IsChirotope m) where
           (dual_axioms (negated (dual_of m)) (negated_chirotope (dual_of m) (dual_axioms m om))).whole refl
           negated_back)
 
+  -- where d is a normal form of the dual of m, a normal form of the dual of d is one of m
   pub dual_normal : (d c : SignMap) → IsNormalFormOf (dual_of m) d → IsNormalFormOf (dual_of d) c → IsNormalFormOf m c
   dual_normal d c h k = normal_up_to_sign (dual_of d) m c (flipped m (dual_of d) (dual_twice d h)) k

@@ -143,16 +143,19 @@ module _ (m : SignMap) (chirotope : IsChirotope m) where
   pub axioms : theory.IsChirotope elements (tuples_of m)
   axioms = theory_chirotope m chirotope
 
+  -- the circuits of a chirotope meet the axioms of circuits
   pub circuit_axioms : HasCircuitAxioms (IsCircuitOfChirotope m)
   circuit_axioms = family_axioms m.elements (IsCircuitOfChirotope m) (IsCircuit elements (tuples_of m)) (circuits_of m)
       (pairs.cocircuit_axioms elements (IsCocircuit (tuples_of m)) (IsCircuit elements (tuples_of m))
       (swapped_pair elements (tuples_of m) axioms))
 
+  -- the cocircuits of a chirotope meet the axioms of circuits
   pub cocircuit_axioms : HasCircuitAxioms (IsCocircuitOfChirotope m)
   cocircuit_axioms = family_axioms m.elements (IsCocircuitOfChirotope m) (IsCocircuit (tuples_of m)) (cocircuits_of m)
       (pairs.cocircuit_axioms elements (IsCircuit elements (tuples_of m)) (IsCocircuit (tuples_of m))
       (dual_pair elements (tuples_of m) axioms))
 
+  -- each circuit of a chirotope is orthogonal to each cocircuit
   pub orthogonal : (X Y : List Sign) → IsCircuitOfChirotope m X → IsCocircuitOfChirotope m Y → IsOrthogonal X Y
   orthogonal X Y x y =
       orthogonal_lists X Y
@@ -161,6 +164,7 @@ module _ (m : SignMap) (chirotope : IsChirotope m) where
 
   -- ---- covectors
 
+  -- the covectors of a chirotope meet the axioms of covectors
   pub covector_axioms : HasCovectorAxioms m.elements (IsCovectorOfChirotope m)
   covector_axioms = family_covector_axioms m.elements (IsCovectorOfChirotope m) (IsCovector elements (tuples_of m))
       (covectors_of m)

@@ -75,6 +75,7 @@ module _ (m : SignMap) (chirotope : IsChirotope m) where
             ∙ ap (first_nonzero (Y e)) (q e),
       )
 
+  -- the covectors are the compositions of cocircuits that conform to them
   pub conformal_both : (X : List Sign) → IsCovectorOfChirotope m X
       ↔ IsCompositionOf m.elements (IsConforming (IsCocircuitOfChirotope m) X) X
   conformal_both X = (
@@ -109,6 +110,7 @@ module _ (m : SignMap) (chirotope : IsChirotope m) where
           subst (IsCompositionOf m.elements (IsConforming (IsCocircuitOfChirotope m) X))
           (same_lists m.elements Z X k l (λ e. q e ∙ sym (p e))) c
 
+  -- the covectors are the compositions of cocircuits
   pub composition_both : (X : List Sign) → IsCovectorOfChirotope m X
       ↔ IsCompositionOf m.elements (IsCocircuitOfChirotope m) X
   composition_both X = (λ x. plain X ((conformal_both X).0 x), composed (IsCocircuitOfChirotope m) cocircuit_covector X)
@@ -120,6 +122,7 @@ module _ (m : SignMap) (chirotope : IsChirotope m) where
 
   -- ---- denotations
 
+  -- the covectors are the lists of a sign for each element that are orthogonal to every circuit
   pub orthogonal_both : (X : List Sign) → length X ≡ m.elements → IsCovectorOfChirotope m X
       ↔ IsOrthogonalToEach (IsCircuitOfChirotope m) X
   orthogonal_both X l = (
@@ -135,6 +138,7 @@ module _ (m : SignMap) (chirotope : IsChirotope m) where
           (λ e. sym (as_function-as_list m.elements F (circuit_supported m F f) e))
           (orthogonal_functions X (as_list m.elements F) (each (as_list m.elements F) (circuit_list m F f)))
 
+  -- a sign for each element is a covector exactly where cocircuits that conform to it give its support
   pub parts_both : (X : List Sign) → length X ≡ m.elements → IsCovectorOfChirotope m X
       ↔ HasConformingParts (IsCocircuitOfChirotope m) X
   parts_both X l =
@@ -155,6 +159,7 @@ module _ (m : SignMap) (chirotope : IsChirotope m) where
   minimal_both = covectors.minimal_both elements (IsCircuit elements (tuples_of m)) (IsCocircuit (tuples_of m))
       (dual_pair elements (tuples_of m) (axioms m chirotope)) (covectors.cocircuit_same (tuples_of m))
 
+  -- the cocircuits are the nonzero covectors of minimal support
   pub least_both : (X : List Sign) → IsCocircuitOfChirotope m X ↔ IsOfLeastSupport (IsCovectorOfChirotope m) X
   least_both X = (
     λ x. let least = ((minimal_both (as_function X)).0 (cocircuit_function m X x)).least in record {

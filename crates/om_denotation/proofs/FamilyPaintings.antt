@@ -70,6 +70,7 @@ module _ (m : SignMap) (chirotope : IsChirotope m) where
         → at_element (as_list m.elements F) f ≡ F f
     listed_sign F sup f low = place_function (as_list m.elements F) f low ∙ as_function-as_list m.elements F sup f
 
+    -- if e is red or green, some circuit or some cocircuit through e fits the colours
     pub painting_one : ((X : List Sign) × IsFittingCircuit m colour e X)
         ⊎ ((Y : List Sign) × IsFittingCocircuit m colour e Y)
     painting_one = ⊎_elim (λ x. inl (circuit_of x)) (λ y. inr (cocircuit_of y))
@@ -104,6 +105,7 @@ module _ (m : SignMap) (chirotope : IsChirotope m) where
               },
             )
 
+    -- if e is red or green, no circuit through e and cocircuit through e both fit the colours
     pub painting_both : (X Y : List Sign) → IsFittingCircuit m colour e X → IsFittingCocircuit m colour e Y → ⊥
     painting_both X Y x y = paintings.not_both elements (IsCircuit elements (tuples_of m)) (IsCocircuit (tuples_of m))
         (dual_pair elements (tuples_of m) (axioms m chirotope)) (painted colour) e painted_here (

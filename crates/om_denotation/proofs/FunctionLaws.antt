@@ -41,6 +41,7 @@ pub zero_function : (X : List Sign) → IsZero X → (e : ℕ) → as_function X
 zero_function X z zero = refl
 zero_function X z (suc i) = sym (at_place X i) ∙ z (suc i)
 
+-- a list with a sign that isn't zero isn't the zero vector
 pub nonzero_list_not_zero : (X : List Sign) → HasNonzero X → IsZero X → ⊥
 nonzero_list_not_zero X (i, k) z = k (sym (at_place X i) ∙ z (suc i))
 
@@ -55,5 +56,6 @@ nonzero_place (x ∷ xs) h = ⊎_elim
     both z all zero = z
     both z all (suc i) = all i
 
+-- the function of a list that isn't the zero vector is nonzero somewhere
 pub nonzero_element : (X : List Sign) → (IsZero X → ⊥) → vectors.HasNonzero (as_function X)
 nonzero_element X h = let r = nonzero_place X (λ all. h (λ e. all (e - 1))) in (suc r.0, r.1)

@@ -25,6 +25,7 @@ use Rattle.om_denotation.proofs.ListExistence.{of_circuits, of_cocircuits}
 
 -- ---- chirotopes
 
+-- the composition of two covectors of a chirotope within the limits is a covector of it
 pub composition_of_chirotope : (m : SignMap) (X Y : List Sign) → IsChirotopeWithinLimits m → length X ≡ m.elements
     → length Y ≡ m.elements
     → IsCovectorOfChirotope m X → IsCovectorOfChirotope m Y → IsCovectorOfChirotope m (compose X Y)
@@ -36,6 +37,7 @@ eliminated : (m : SignMap) → IsChirotope m → (X Y : List Sign) (e : ℕ) →
 eliminated m om X Y e x y low apart = let z = (covector_axioms m om).elimination X Y x y e low apart in
     (z.0, z.1.size, z.1, z.2)
 
+-- a covector of a chirotope within the limits eliminates an element that separates two covectors of it
 pub elimination_of_chirotope : (m : SignMap) (X Y : List Sign) (e : ℕ) → IsChirotopeWithinLimits m
     → length X ≡ m.elements
     → length Y ≡ m.elements
@@ -60,6 +62,7 @@ module _ (n : ℕ) (P : List Sign → Type 0) (m : SignMap) (om : IsChirotope m)
 
 -- ---- circuits and cocircuits
 
+-- if circuits meet their axioms, the composition of two of their covectors is a covector of them
 pub composition_of_circuits : (c : Listing) (X Y : List Sign) → IsSignedSet c.elements c.members → length X ≡ c.elements
     → length Y ≡ c.elements
     → IsCovectorOfCircuits c X → IsCovectorOfCircuits c Y → IsCovectorOfCircuits c (compose X Y)
@@ -69,6 +72,7 @@ composition_of_circuits c X Y v lx ly = by_map (of_circuits c v.lengths v.axioms
         → IsCovectorOfCircuits c (compose X Y)
     by_map (m, h) = composition_by c.elements (IsCovectorOfCircuits c) m h.axioms h.elements h.same X Y lx ly
 
+-- if circuits meet their axioms, a covector of them eliminates an element that separates two of their covectors
 pub elimination_of_circuits : (c : Listing) (X Y : List Sign) (e : ℕ) → IsSignedSet c.elements c.members
     → length X ≡ c.elements → length Y ≡ c.elements
     → IsCovectorOfCircuits c X → IsCovectorOfCircuits c Y → 1 ≤ e → IsSeparatedAt X Y e
@@ -79,6 +83,7 @@ elimination_of_circuits c X Y e v lx ly = by_map (of_circuits c v.lengths v.axio
         → IsSeparatedAt X Y e → HasEliminator c.elements (IsCovectorOfCircuits c) X Y e
     by_map (m, h) = elimination_by c.elements (IsCovectorOfCircuits c) m h.axioms h.elements h.same X Y e lx ly
 
+-- if cocircuits meet their axioms, the composition of two of their covectors is a covector of them
 pub composition_of_cocircuits : (c : Listing) (X Y : List Sign) → IsSignedSet c.elements c.members
     → length X ≡ c.elements → length Y ≡ c.elements
     → IsCovectorOfCocircuits c X → IsCovectorOfCocircuits c Y → IsCovectorOfCocircuits c (compose X Y)
@@ -88,6 +93,7 @@ composition_of_cocircuits c X Y v lx ly = by_map (of_cocircuits c v.lengths v.ax
         → IsCovectorOfCocircuits c (compose X Y)
     by_map (m, h) = composition_by c.elements (IsCovectorOfCocircuits c) m h.axioms h.elements h.same X Y lx ly
 
+-- if cocircuits meet their axioms, a covector of them eliminates an element that separates two of their covectors
 pub elimination_of_cocircuits : (c : Listing) (X Y : List Sign) (e : ℕ) → IsSignedSet c.elements c.members
     → length X ≡ c.elements → length Y ≡ c.elements
     → IsCovectorOfCocircuits c X → IsCovectorOfCocircuits c Y → 1 ≤ e → IsSeparatedAt X Y e
@@ -100,12 +106,14 @@ elimination_of_cocircuits c X Y e v lx ly = by_map (of_cocircuits c v.lengths v.
 
 -- ---- covectors
 
+-- if covectors meet their axioms, the composition of two of them is one of them
 pub composition_of_covectors : (c : Listing) (X Y : List Sign) → covector_sets.IsCovectorSet c.elements c.members
     → length X ≡ c.elements → length Y ≡ c.elements
     → IsCovectorOfCovectors c X → IsCovectorOfCovectors c Y → IsCovectorOfCovectors c (compose X Y)
 composition_of_covectors c X Y v lx ly x y =
     record { size = length-compose X Y (lx ∙ sym ly) ∙ lx; member = v.axioms.compositions X Y x.member y.member }
 
+-- if covectors meet their axioms, one of them eliminates an element that separates two of them
 pub elimination_of_covectors : (c : Listing) (X Y : List Sign) (e : ℕ)
     → covector_sets.IsCovectorSet c.elements c.members → length X ≡ c.elements → length Y ≡ c.elements
     → IsCovectorOfCovectors c X → IsCovectorOfCovectors c Y → 1 ≤ e → IsSeparatedAt X Y e

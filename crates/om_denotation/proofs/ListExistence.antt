@@ -134,6 +134,7 @@ module _ (c : Listing) (lengths : HaveLength c.elements c.members) where
           (supported c.elements c.members lengths) (circuit_axioms c.members axioms) F,
     )
 
+    -- a list that meets the axioms of circuits is that of the cocircuits of some chirotope
     pub of_cocircuits : (m : SignMap) × HasCocircuits c m
     of_cocircuits =
         let m = made c.elements chi om in
@@ -166,6 +167,7 @@ module _ (c : Listing) (lengths : HaveLength c.elements c.members) where
       λ k. (member_both F).1 (dual_circuit E (elements_distinct c.elements) chi om F k),
     )
 
+    -- a list that meets the axioms of circuits is that of the circuits of some chirotope
     pub of_circuits : (m : SignMap) × HasCircuits c m
     of_circuits =
         let m = made c.elements (dual_map E chi) dual_om in
@@ -202,6 +204,7 @@ module _ (c : Listing) (lengths : HaveLength c.elements c.members) where
           (covector_axioms c.members axioms) F,
     )
 
+    -- a list that meets the axioms of covectors is that of the covectors of some chirotope
     pub of_covectors : (m : SignMap) × HasCovectors c m
     of_covectors =
         let m = made c.elements psi psi_om in

@@ -35,9 +35,11 @@ pub record AreFunctionsOf (n : ℕ) (P : List Sign → Type 0) (D : SignVector �
 
 -- ---- signs at elements
 
+-- the sign at element i + 1 is the sign at place i
 pub at_place : (X : List Sign) (i : ℕ) → at_element X (suc i) ≡ at X i
 at_place X i = let e : suc i - 1 ≡ i = omega arith in ap (at X) e
 
+-- the sign of a list at an element is the value of its function
 pub place_function : (X : List Sign) (e : ℕ) → 1 ≤ e → at_element X e ≡ as_function X e
 place_function X zero low = absurd (omega arith)
 place_function X (suc i) low = at_place X i

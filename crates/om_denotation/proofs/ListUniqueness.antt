@@ -43,6 +43,7 @@ circuit_of_negated m X = (
       (circuit_function (negated m) X c))),
 )
 
+-- a map and its negative have the same cocircuits
 pub cocircuit_of_negated : (m : SignMap) (X : List Sign) → IsCocircuitOfChirotope m X
     ↔ IsCocircuitOfChirotope (negated m) X
 cocircuit_of_negated m X = (
@@ -75,6 +76,7 @@ pub chained : (n : ℕ) (A B P Q : List Sign → Type 0) → DenoteTheSame n A P
     → DenoteTheSame n P Q
 chained n A B P Q a b h X l = (λ p. (b X l).0 ((h X l).0 ((a X l).1 p)), λ q. (a X l).0 ((h X l).1 ((b X l).1 q)))
 
+-- lists on as many elements with the axioms of circuits that denote the same as circuits have the same members
 pub one_list_of_circuits : (c d : Listing) → HaveLength c.elements c.members → HaveLength d.elements d.members
     → MeetsCircuitAxioms c.members → MeetsCircuitAxioms d.members
     → d.elements ≡ c.elements → DenoteTheSame c.elements (IsCovectorOfCircuits c) (IsCovectorOfCircuits d)
@@ -94,6 +96,7 @@ one_list_of_circuits c d lc ld ac ad e same X = of_both (of_circuits c lc ac) (o
           λ x. hm.members.complete X (which.1 (hk.members.sound X x)),
         )
 
+-- lists on as many elements with the axioms of circuits that denote the same as cocircuits have the same members
 pub one_list_of_cocircuits : (c d : Listing) → HaveLength c.elements c.members → HaveLength d.elements d.members
     → MeetsCircuitAxioms c.members → MeetsCircuitAxioms d.members
     → d.elements ≡ c.elements → DenoteTheSame c.elements (IsCovectorOfCocircuits c) (IsCovectorOfCocircuits d)
@@ -113,6 +116,7 @@ one_list_of_cocircuits c d lc ld ac ad e same X = of_both (of_cocircuits c lc ac
           λ x. hm.members.complete X (which.1 (hk.members.sound X x)),
         )
 
+-- lists on as many elements that denote the same as covectors have the same members
 pub one_list_of_covectors : (c d : Listing) → HaveLength c.elements c.members → HaveLength d.elements d.members
     → d.elements ≡ c.elements → DenoteTheSame c.elements (IsCovectorOfCovectors c) (IsCovectorOfCovectors d)
     → (X : List Sign) → Contains c.members X ↔ Contains d.members X

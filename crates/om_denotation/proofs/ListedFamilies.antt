@@ -20,15 +20,18 @@ use Rattle.om_denotation.specs.Listings.{AreAllOf}
 use Rattle.om_denotation.proofs.ListFunctions.{at_place}
 
 module _ (P : List Sign → Type 0) (members : List (List Sign)) (all : AreAllOf P members) where
+  -- if each vector of the family has n signs, each member of the list has
   pub lengths : (n : ℕ) → ((X : List Sign) → P X → length X ≡ n) → HaveLength n members
   lengths n size = λ k d l. size _ (all.sound _ (All-contains_itself members k d l))
 
+  -- conforming vectors of the family give each sign of the support of X exactly where conforming members do
   pub composed_both : (X : List Sign) → HasConformingParts P X ↔ HasConformingParts (Contains members) X
   composed_both X = (
     λ h i k. let y = h i k in (y.0, all.complete y.0 y.1, y.2, y.3),
     λ h i k. let y = h i k in (y.0, all.sound y.0 y.1, y.2, y.3),
   )
 
+  -- if the family meets the axioms of circuits, the list meets them
   pub circuit_axioms : HasCircuitAxioms P → MeetsCircuitAxioms members
   circuit_axioms axioms = record {
     no_zero = λ X x z. let n = axioms.nonzero X (all.sound X x) in n.1 (sym (at_place X n.0) ∙ z (suc n.0));
@@ -38,6 +41,7 @@ module _ (P : List Sign → Type 0) (members : List (List Sign)) (all : AreAllOf
         in (z.0, all.complete z.0 z.1, z.2);
   }
 
+  -- if the family meets the axioms of covectors with n signs, the list meets them
   pub covector_axioms : (n : ℕ) → HasCovectorAxioms n P → MeetsCovectorAxioms members
   covector_axioms n axioms = record {
     zero = (replicate n Zero, all.complete (replicate n Zero) axioms.zero, λ e. at-replicate n (e - 1));

@@ -132,9 +132,11 @@ listing_outside n e a h off = elim (is_member_cases e a) [
 
 -- ---- what the calls say
 
+-- (-1)^k is plus if k is even
 pub even_parity : (k : ℕ) → (k % 2 ≡ 1 → ⊥) → parity_sign k ≡ Plus
 even_parity k n = let e : k % 2 ≡ 0 = omega arith in rw (eq-eqb (k % 2) 0 e) refl
 
+-- (-1)^k is minus if k is odd
 pub odd_parity : (k : ℕ) → k % 2 ≡ 1 → parity_sign k ≡ Minus
 odd_parity k o = let n : k % 2 ≢ 0 = omega arith in rw (ne_eqb (k % 2) 0 n) refl
 

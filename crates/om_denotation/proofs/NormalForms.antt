@@ -26,6 +26,7 @@ use Rattle.om_denotation.proofs.ChirotopeBridge.{tuples_of, covector_function, c
 use Rattle.om_denotation.specs.Maps.{IsNormalFormOf}
 use Rattle.om_denotation.proofs.Rules.{same_maps}
 
+-- each chirotope has a normal form
 pub normal_exists : (m : SignMap) → IsChirotope m → (d : SignMap) × IsNormalFormOf m d
 normal_exists m om = by_leader (leader m.signs)
   where
@@ -34,6 +35,7 @@ normal_exists m om = by_leader (leader m.signs)
     by_leader (inr (inl p)) = (negated m, record { same = inr refl; normal = led_negated m.signs p })
     by_leader (inr (inr z)) = absurd (not_all_zero m om.whole z om.nonzero)
 
+-- on each list the negative of a map has the opposite value
 pub tuples_negated : (m : SignMap) (t : List ℕ) → tuples_of (negated m) t ≡ negative (tuples_of m) t
 tuples_negated m t = elim (is_tuple_cases m.elements m.rank t) [
   | inl k ↦ on_tuples_at m.elements m.rank (chi_of (negated m)) t k.0
@@ -65,6 +67,7 @@ negated_covectors m X l =
       (λ h. n.1 (negative_covector (elements_to m.elements) (tuples_of m) (as_function X) (b.0 h))),
     )
 
+-- a normal form of a map has the covectors of the map
 pub normal_covectors : (m d : SignMap) → IsNormalFormOf m d → (X : List Sign) → length X ≡ m.elements
     → IsCovectorOfChirotope d X ↔ IsCovectorOfChirotope m X
 normal_covectors m d h X l = by_case h.same
@@ -74,6 +77,7 @@ normal_covectors m d h X l = by_case h.same
     by_case (inr q) = subst (λ k. IsCovectorOfChirotope k X ↔ IsCovectorOfChirotope m X) (sym q)
         (negated_covectors m X l)
 
+-- a normal form of a map has the rank of the map
 pub normal_rank : (m d : SignMap) → IsNormalFormOf m d → d.rank ≡ m.rank
 normal_rank m d h = by_case h.same
   where
@@ -81,6 +85,7 @@ normal_rank m d h = by_case h.same
     by_case (inl q) = ap (λ k. k.rank) q
     by_case (inr q) = ap (λ k. k.rank) q
 
+-- a normal form of a map has the elements of the map
 pub normal_elements : (m d : SignMap) → IsNormalFormOf m d → d.elements ≡ m.elements
 normal_elements m d h = by_case h.same
   where

@@ -21,9 +21,11 @@ use Rattle.om_chirotope.proofs.Theory.{from_tuple, map_chirotope}
 use Rattle.om_denotation.proofs.ChirotopeBridge.{tuples_of}
 use Rattle.om_denotation.specs.Maps.{map_by}
 
+-- maps with the same value on each list are the same
 pub same_maps : (f g : List ℕ → Sign) → ((t : List ℕ) → f t ≡ g t) → f ≡ g
 same_maps f g h = λ i. λ t. h t i
 
+-- in the map of a rule an increasing list of its rank has the sign that the rule gives it
 pub rule_at : (rank elements : ℕ) (rule : List ℕ → Sign) (xs : List ℕ) → IsSubsetFrom 1 elements xs → length xs ≡ rank
     → chi_of (map_by rank elements rule) xs ≡ rule xs
 rule_at rank elements rule xs h l =
@@ -35,6 +37,7 @@ rule_at rank elements rule xs h l =
     subst (λ k. subset_at elements k (rank_of elements xs) ≡ xs) l (get_or-rank_from 1 elements xs h) in
     get_or-map rule (all_subsets elements rank) (rank_of elements xs) [] Zero inside ∙ ap rule back
 
+-- the map of a rule has a sign for each increasing list, if its rank isn't above the number of elements
 pub whole_by : (rank elements : ℕ) (rule : List ℕ → Sign) → rank ≤ elements → IsMap (map_by rank elements rule)
 whole_by rank elements rule le =
     record { part = le; whole = length-map (all_subsets elements rank) rule ∙ length-subsets_from 1 elements rank }
@@ -59,6 +62,7 @@ pub tuples_by : (rank elements : ℕ) (rule : List ℕ → Sign) (t : List ℕ)
 tuples_by rank elements rule =
     same_on_tuples elements rank (chi_of (map_by rank elements rule)) rule (rule_at rank elements rule)
 
+-- a map is a chirotope if its values on all lists are those of a chirotope of the theory
 pub chirotope_by : (m : SignMap) (chi : List ℕ → Sign) → IsMap m → ((t : List ℕ) → tuples_of m t ≡ chi t)
     → theory.IsChirotope (elements_to m.elements) chi → IsChirotope m
 chirotope_by m chi w h c =

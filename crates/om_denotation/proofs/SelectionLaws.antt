@@ -15,6 +15,7 @@ use Rattle.om_covectors.specs.Minimality.{AreThose}
 -- ---- those with a property
 
 module _ (P : List Sign → Type 0) where
+  -- a selected vector is a member and has the property
   pub those_contained : (xs ys : List (List Sign)) → AreThose P xs ys → (X : List Sign) → Contains ys X → Contains xs X
       × P X
   those_contained [] ys h X m = absurd (none_contained X (subst (λ l. Contains l X) h m))
@@ -24,6 +25,7 @@ module _ (P : List Sign → Type 0) where
       (first_or_later Z h.1 X (subst (λ l. Contains l X) h.2 m))
   those_contained (Z ∷ xs) ys (inr h) X m = let r = those_contained xs ys h.1 X m in (contains_later Z xs X r.0, r.1)
 
+  -- a member with the property is selected
   pub contained_those : (xs ys : List (List Sign)) → AreThose P xs ys → (X : List Sign) → Contains xs X → P X
       → Contains ys X
   contained_those [] ys h X m p = absurd (none_contained X m)
@@ -36,15 +38,18 @@ module _ (P : List Sign → Type 0) where
       (λ k. contained_those xs ys h.1 X k p)
       (first_or_later Z xs X m)
 
+  -- no more are selected than there are members
   pub those_few : (xs ys : List (List Sign)) → AreThose P xs ys → length ys ≤ length xs
   those_few [] ys h = let e = ap length h in omega arith
   those_few (Z ∷ xs) ys (inl h) = let e = ap length h.2 in let r = those_few xs h.1 h.3 in omega arith
   those_few (Z ∷ xs) ys (inr h) = let r = those_few xs ys h.1 in omega arith
 
+  -- what holds of each member holds of each one that is selected
   pub those_all : (Q : List Sign → Type 0) (xs ys : List (List Sign)) → AreThose P xs ys → All Q xs → All Q ys
   those_all Q xs ys h all =
       λ k d l. All-contains Q xs _ all (those_contained xs ys h _ (All-contains_itself ys k d l)).0
 
+  -- if the members are distinct, so are those that are selected
   pub those_distinct : (xs ys : List (List Sign)) → AreThose P xs ys → AllPairs (λ X Y. X ≢ Y) xs
       → AllPairs (λ X Y. X ≢ Y) ys
   those_distinct [] ys h d = subst (AllPairs (λ X Y. X ≢ Y)) (sym h) d

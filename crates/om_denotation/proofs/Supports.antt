@@ -13,6 +13,7 @@ use Rattle.om_signs.specs.SignVec.{IsInSupport, IsMaskOf}
 use Rattle.om_signs.proofs.Bits.{some_bit}
 use Rattle.om_denotation.specs.Circuits.{HasNonzero}
 
+-- a list has a nonzero sign if the mask of its support, which is below 2^32, isn't 0
 pub nonzero_from_support : (V : List Sign) (mask : ℕ) → IsMaskOf (length V) (IsInSupport V) mask → mask < 2 ^ 32
     → mask ≢ 0 → HasNonzero V
 nonzero_from_support V mask m small n = by (some_bit mask n small)
@@ -23,6 +24,7 @@ nonzero_from_support V mask m small n = by (some_bit mask n small)
       | inr ge ↦ let z = bit_at_above mask (length V) i m.within ge in absurd (omega (arith, b, z))
     ]
 
+-- a list has no nonzero sign if the mask of its support is 0
 pub zero_from_support : (V : List Sign) (mask : ℕ) → IsMaskOf (length V) (IsInSupport V) mask → mask ≡ 0 → HasNonzero V
     → ⊥
 zero_from_support V mask m z (i, n) = elim (cases_lt i (length V)) [

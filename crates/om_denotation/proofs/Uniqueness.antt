@@ -51,6 +51,7 @@ same_signs n r xs ys lx ly h = ext_get_or Zero xs ys (lx ∙ sym ly) (λ k l.
     let t = listed 1 n r k few in
     subst (λ j. at xs j ≡ at ys j) t.place (h (subset_at n r k) t.lawful t.size))
 
+-- maps of the same rank, on the same elements, with the same values on all lists are the same
 pub same_map : (m k : SignMap) → IsMap m → IsMap k → k.elements ≡ m.elements → k.rank ≡ m.rank
     → ((t : List ℕ) → tuples_of k t ≡ tuples_of m t) → k ≡ m
 same_map m k wm wk e r h =
@@ -78,6 +79,7 @@ same_rank m k om h =
     sym (on_tuples_tuple k.elements k.rank (chi_of k) b.0 (h b.0 b.1)).size
     ∙ (on_tuples_tuple m.elements m.rank (chi_of m) b.0 b.1).size
 
+-- a map with the values of a chirotope, or with all the opposite ones, is the chirotope or its negative
 pub same_up_to_sign : (m k : SignMap) → IsChirotope m → IsMap k → k.elements ≡ m.elements
     → ((t : List ℕ) → tuples_of k t ≡ tuples_of m t) ⊎ ((t : List ℕ) → tuples_of k t ≡ negative (tuples_of m) t)
     → (k ≡ m) ⊎ (k ≡ negated m)
@@ -119,6 +121,7 @@ same_by_covectors m k om ok e same = same_up_to_sign m k om ok.whole e
 
 -- ---- normal forms
 
+-- a normal form of a map is also one of the negative of the map
 pub normal_up_to_sign : (m k a : SignMap) → (k ≡ m) ⊎ (k ≡ negated m) → IsNormalFormOf m a → IsNormalFormOf k a
 normal_up_to_sign m k a (inl q) h = subst (λ j. IsNormalFormOf j a) (sym q) h
 normal_up_to_sign m k a (inr q) h =
@@ -128,6 +131,7 @@ normal_up_to_sign m k a (inr q) h =
     turned (inl p) = inr (p ∙ sym (negated_twice m))
     turned (inr p) = inl p
 
+-- if a map is another one or its negative, this one is the map or its negative
 pub flipped : (m k : SignMap) → (k ≡ m) ⊎ (k ≡ negated m) → (m ≡ k) ⊎ (m ≡ negated k)
 flipped m k (inl q) = inl (sym q)
 flipped m k (inr q) = inr (sym (ap negated q ∙ negated_twice m))
@@ -142,6 +146,7 @@ led_once xs (i, p, before) (j, q, former) = elim (cases_lt i j) [
   ]
 ]
 
+-- a map has at most one normal form
 pub one_normal_form : (m a b : SignMap) → IsNormalFormOf m a → IsNormalFormOf m b → a ≡ b
 one_normal_form m a b h k = by_case h.same k.same
   where
@@ -155,6 +160,7 @@ one_normal_form m a b h k = by_case h.same k.same
         (subst (λ j. IsLedBy Plus j.signs) p h.normal))
     by_case (inr p) (inr q) = p ∙ sym q
 
+-- a normal form of a chirotope is a chirotope
 pub normal_axioms : (m d : SignMap) → IsChirotope m → IsNormalFormOf m d → IsChirotope d
 normal_axioms m d om h = by_case h.same
   where
