@@ -29,6 +29,7 @@ use Rattle.om_wiring.proofs.Pencils.{IsPencil}
 abbrev pub listed_map : ℕ → (List ℕ → Sign) → SignMap
 listed_map n f = record { rank = 3; elements = n; signs = map f (all_subsets n 3) }
 
+-- in a listed map each increasing list of three elements has the sign that is given for it
 pub listed_sign : (n : ℕ) (f : List ℕ → Sign) (t : List ℕ) → IsSubsetFrom 1 n t → length t ≡ 3
     → chi_of (listed_map n f) t ≡ f t
 listed_sign n f t h l =
@@ -36,6 +37,7 @@ listed_sign n f t h l =
     let back : get_or (all_subsets n 3) (rank_of n t) [] ≡ t = rw (← l) (get_or-rank_from 1 n t h) in
     get_or-map f (all_subsets n 3) (rank_of n t) [] Zero few ∙ ap f back
 
+-- a listed map of at least three elements has a sign for each increasing list of three
 pub listed_whole : (n : ℕ) (f : List ℕ → Sign) → 3 ≤ n → IsMap (listed_map n f)
 listed_whole n f l = record { part = l; whole = length-map (all_subsets n 3) f ∙ length-subsets_from 1 n 3 }
 
@@ -71,20 +73,25 @@ left_minus : (s t u v w : Sign) → s ≡ opposite t → u ≡ Minus → v ≡ P
 left_minus s t u v w e f g h = grind arith
 
 module _ (chi : List ℕ → Sign) (alt : IsAlternating chi) where
+  -- an alternating map is negated where the first two of three elements are exchanged
   pub swap_first : (a b c : ℕ) → chi (b ∷ a ∷ c ∷ []) ≡ opposite (chi (a ∷ b ∷ c ∷ []))
   swap_first a b c = alt a b [] (c ∷ [])
 
+  -- an alternating map is negated where the last two of three elements are exchanged
   pub swap_last : (a b c : ℕ) → chi (a ∷ c ∷ b ∷ []) ≡ opposite (chi (a ∷ b ∷ c ∷ []))
   swap_last a b c = alt b c (a ∷ []) []
 
+  -- an alternating map keeps its value where the last of three elements moves to the front
   pub rotated : (a b c : ℕ) → chi (c ∷ a ∷ b ∷ []) ≡ chi (a ∷ b ∷ c ∷ [])
   rotated a b c = equal_if_twice_opposite (chi (c ∷ a ∷ b ∷ [])) (chi (a ∷ c ∷ b ∷ [])) (chi (a ∷ b ∷ c ∷ []))
       (swap_first a c b)
       (swap_last a b c)
 
+  -- an alternating map is zero where the first two of three elements are equal
   pub first_equal : (a b : ℕ) → chi (a ∷ a ∷ b ∷ []) ≡ Zero
   first_equal a b = own_opposite (chi (a ∷ a ∷ b ∷ [])) (swap_first a a b)
 
+  -- an alternating map is zero where the last two of three elements are equal
   pub last_equal : (a b : ℕ) → chi (a ∷ b ∷ b ∷ []) ≡ Zero
   last_equal a b = own_opposite (chi (a ∷ b ∷ b ∷ [])) (swap_last a b b)
 
