@@ -28,6 +28,7 @@ some_place (x ∷ xs) = go (zero_or_nonzero x) (some_place xs)
         each z all zero d l = z
         each z all (suc k) d l = all k d (omega arith)
 
+-- if not all signs of a map are zero, some value isn't zero
 pub nonzero_value : (m : SignMap) → IsMap m → (IsAllZero m.signs → ⊥) → HasNonzeroValue m
 nonzero_value m w n = go (some_place m.signs)
   where
@@ -43,6 +44,7 @@ nonzero_value m w n = go (some_place m.signs)
               ∙ sym (value_in_order 1 m.elements (chi_of m) (subset_at m.elements m.rank k) t.lawful) ∙ z),
         )
 
+-- a map has a value that isn't zero, or all its signs are zero
 pub nonzero_or_zeros : (m : SignMap) → IsMap m → HasNonzeroValue m ⊎ IsAllZero m.signs
 nonzero_or_zeros m w = go (some_place m.signs)
   where
@@ -51,6 +53,7 @@ nonzero_or_zeros m w = go (some_place m.signs)
     go (inr all) = inr all
     go (inl (k, l, s)) = inl (nonzero_value m w (λ all. s (all k Zero l)))
 
+-- where all signs of a map are zero, no value is nonzero
 pub not_all_zero : (m : SignMap) → IsMap m → IsAllZero m.signs → HasNonzeroValue m → ⊥
 not_all_zero m w z (xs, h, l, n) =
     let whole = w.whole in

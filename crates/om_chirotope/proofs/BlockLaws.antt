@@ -28,6 +28,7 @@ use Rattle.om_chirotope.proofs.Tables.{AllBelow, all_done, found, length-table, 
 
 -- ---- whether two vectors are orthogonal is decided
 
+-- two vectors are orthogonal, or they aren't
 pub orthogonal_cases : (xs ys : List Sign) → IsOrthogonal xs ys ⊎ (IsOrthogonal xs ys → ⊥)
 orthogonal_cases xs ys = go (has_or_not xs ys Plus (λ e. cc)) (has_or_not xs ys Minus (λ e. cc))
   where

@@ -15,6 +15,7 @@ use Rattle.om_laws.specs.Relations.{around}
 use Rattle.om_subsets.proofs.Order.{members_from}
 use Rattle.om_chirotope.specs.Map.{parity_sign}
 
+-- (-1)^(k + 1) is the opposite of (-1)^k
 pub parity_sign-suc : (k : ℕ) → parity_sign (suc k) ≡ opposite (parity_sign k)
 parity_sign-suc k = grind arith
 
@@ -78,6 +79,7 @@ around_member low (suc m) e chi (x ∷ xs) (inl (q, h)) k =
         (flip (chi (x ∷ without_element e xs)) _ (length xs - count_above e xs) (i mem))
 around_member low (suc m) e chi (x ∷ xs) (inr (q, h)) k = around_member (low + 1) m e chi (x ∷ xs) h k
 
+-- an increasing list without one of its elements is one shorter
 pub length-without : (low m e : ℕ) (xs : List ℕ) → IsSubsetFrom low m xs → IsMember e xs
     → length (without_element e xs) + 1 ≡ length xs
 length-without low m e [] h k = absurd k

@@ -35,6 +35,7 @@ before_below low (suc m) x e (y ∷ ys) (inl (q, h)) l =
     rw (lt-ltb x y lt) (before_below (low + 1) m x e ys h (omega arith))
 before_below low (suc m) x e (y ∷ ys) (inr (q, h)) l = before_below (low + 1) m x e (y ∷ ys) h (omega arith)
 
+-- an increasing list with a new element at its end is sorted by inserting this element
 pub sorted_end : (low m e : ℕ) (xs : List ℕ) → IsSubsetFrom low m xs → (IsMember e xs → ⊥)
     → sorted (xs ++ e ∷ []) ≡ insert e xs
 sorted_end low m e [] h n = refl
@@ -46,12 +47,14 @@ sorted_end low (suc m) e (x ∷ xs) (inl (q, h)) n =
     ap (insert x) i ∙ insert_comm x e xs ne ∙ ap (insert e) b
 sorted_end low (suc m) e (x ∷ xs) (inr (q, h)) n = sorted_end (low + 1) m e (x ∷ xs) h n
 
+-- to insert an element that doesn't occur is to add it to the set
 pub insert_with : (e : ℕ) (xs : List ℕ) → (IsMember e xs → ⊥) → insert e xs ≡ with_element e xs
 insert_with e [] n = refl
 insert_with e (x ∷ xs) n =
     let ne : e ≢ x = (λ r. n (inl r)) in
     rw (ne_eqb e x ne, insert_with e xs (λ k. n (inr k))) refl
 
+-- if e is put behind an increasing list without it, the sign of sorting is -1 to the number of elements above e
 pub sign_end : (low m e : ℕ) (xs : List ℕ) → IsSubsetFrom low m xs → (IsMember e xs → ⊥)
     → sort_sign (xs ++ e ∷ []) ≡ parity_sign (count_above e xs)
 sign_end low m e [] h n = refl
@@ -87,6 +90,7 @@ pub along_member : (low m e : ℕ) (f : List ℕ → Sign) (xs : List ℕ) → I
     → along (value f) xs e ≡ Zero
 along_member low m e f xs h k = rw (sign_member low m e xs h k) refl
 
+-- if e is off A and below an even number of its elements, the set with e has the value of A followed by e
 pub along_even : (low m e : ℕ) (f : List ℕ → Sign) (xs : List ℕ) → IsSubsetFrom low m xs
     → IsSubsetFrom low m (with_element e xs) → (IsMember e xs → ⊥) → (count_above e xs % 2 ≡ 1 → ⊥)
     → value f (with_element e xs) ≡ along (value f) xs e
@@ -95,6 +99,7 @@ along_even low m e f xs h w n p =
     value_in_order low m f (with_element e xs) w
     ∙ rw (sign_end low m e xs h n, sorted_end low m e xs h n, insert_with e xs n, even) refl
 
+-- if e is off A and below an odd number of its elements, A followed by e has the opposite value of the set with e
 pub along_odd : (low m e : ℕ) (f : List ℕ → Sign) (xs : List ℕ) → IsSubsetFrom low m xs
     → IsSubsetFrom low m (with_element e xs) → (IsMember e xs → ⊥) → count_above e xs % 2 ≡ 1
     → opposite (value f (with_element e xs)) ≡ along (value f) xs e
@@ -102,6 +107,7 @@ along_odd low m e f xs h w n p =
     ap opposite (value_in_order low m f (with_element e xs) w)
     ∙ rw (sign_end low m e xs h n, sorted_end low m e xs h n, insert_with e xs n, p) refl
 
+-- a set is one longer with an element that it doesn't have
 pub length-with : (e : ℕ) (xs : List ℕ) → (IsMember e xs → ⊥) → length (with_element e xs) ≡ length xs + 1
 length-with e [] n = refl
 length-with e (x ∷ xs) n =
@@ -113,6 +119,7 @@ length-with e (x ∷ xs) n =
     step true i = omega arith
     step false i = omega arith
 
+-- if the elements of a chosen set increase, a list that equals them does
 pub with_lawful : (n : ℕ) (v : Chosen) (xs : List ℕ) → v.n ≡ n → v.elements ≡ xs → IsSubsetFrom 1 v.n v.elements
     → IsSubsetFrom 1 n xs
 with_lawful n v xs en es h = subst (IsSubsetFrom 1 n) es (subst (λ k. IsSubsetFrom 1 k v.elements) en h)

@@ -75,6 +75,7 @@ orthogonal_kept xs ys us vs hu hv (f, g) = (
       (g (product_kept us vs xs ys Minus (turned_back xs us hu) (turned_back ys vs hv) h)),
 )
 
+-- the negative of a chirotope is a chirotope
 pub negated_chirotope : (m : SignMap) → IsChirotope m → IsChirotope (negated m)
 negated_chirotope m c = record {
   whole = record { part = c.whole.part; whole = length-map m.signs opposite ∙ c.whole.whole };
@@ -99,6 +100,7 @@ led_later x xs s z (k, p, q) = (suc k, p, before)
     before zero l = z
     before (suc j) l = q j (omega arith)
 
+-- the first nonzero sign of a list is plus or minus, or all its signs are zero
 pub leader : (xs : List Sign) → IsLedBy Plus xs ⊎ IsLedBy Minus xs ⊎ IsAllZero xs
 leader [] = inr (inr (λ k d l. absurd (omega arith)))
 leader (x ∷ xs) = go x refl (leader xs)
@@ -124,6 +126,7 @@ led_by_plus m c n = go (leader m.signs)
     go (inr (inl p)) = absurd (n p)
     go (inr (inr z)) = absurd (not_all_zero m c.whole z c.nonzero)
 
+-- if the first nonzero sign of a list is minus, that of the negated list is plus
 pub led_negated : (xs : List Sign) → IsLedBy Minus xs → IsLedBy Plus (map opposite xs)
 led_negated xs (k, p, q) = (k, at-map-opposite xs k ∙ ap opposite p, λ j l. at-map-opposite xs j ∙ ap opposite (q j l))
 

@@ -38,6 +38,7 @@ vector_more e f xs s low high is done k l = elim (cases_eq k (e - 1)) [
   | inr n ↦ get_or-set_other xs (e - 1) k s Zero n ∙ done k (omega arith)
 ]
 
+-- the list of a function has at each of the elements 1 to n the value of the function
 pub place-vector : (n : ℕ) (f : ℕ → Sign) (e : ℕ) → 1 ≤ e → e ≤ n → at_element (as_list n f) e ≡ f e
 place-vector n f e low high =
     let back : 1 + (e - 1) ≡ e = omega arith in
@@ -77,6 +78,7 @@ pub circuit_off : (m : SignMap) (s : List ℕ) (e : ℕ) → 1 ≤ e → e ≤ m
 circuit_off m s e low high n = place-vector m.elements (around (value_of m) s) e low high
     ∙ around_zero (value_of m) s e n
 
+-- the vector U of A has at e the value of A followed by e
 pub cocircuit_place : (m : SignMap) (a : List ℕ) (e : ℕ) → 1 ≤ e → e ≤ m.elements
     → at_element (cocircuit_vector m a) e ≡ value_of m (a ++ e ∷ [])
 cocircuit_place m a e low high = place-vector m.elements (along (value_of m) a) e low high

@@ -102,6 +102,7 @@ module _ (m : SignMap) (p : List ℕ) (x : ℕ) (h : IsSubsetFrom 1 m.elements p
   at_vector a k l = let e : 1 + k ≡ k + 1 = omega arith in
       get_or-map-range_with_len (along (value_of m) a) 1 m.elements k (k + 1) Zero l e
 
+  -- if x is off P and below an even number of its elements, the row of x is the vector U of P with x
   pub row_even : (count_above x p % 2 ≡ 1 → ⊥) → cocircuit_vector m (with_element x p)
       ≡ cocircuit_vector m (p ++ x ∷ [])
   row_even n = vector_is m.elements (along (value_of m) (p ++ x ∷ [])) (cocircuit_vector m (with_element x p))
@@ -112,6 +113,7 @@ module _ (m : SignMap) (p : List ℕ) (x : ℕ) (h : IsSubsetFrom 1 m.elements p
       plus : (s : Sign) → product (parity_sign (count_above x p)) s ≡ s
       plus s = let z : count_above x p % 2 ≡ 0 = omega arith in rw (eq-eqb (count_above x p % 2) 0 z) refl
 
+  -- if x is off P and below an odd number of its elements, the row of x is the negative of the vector U of P with x
   pub row_odd : count_above x p % 2 ≡ 1 → map opposite (cocircuit_vector m (with_element x p))
       ≡ cocircuit_vector m (p ++ x ∷ [])
   row_odd o =
@@ -171,6 +173,7 @@ pub filled_zero : (n : ℕ) (row : List Sign) → row ≡ replicate n Zero → (
     → get_or (replicate 21 row) k [] ≡ replicate n Zero
 filled_zero n row e k l = get_or-replicate 21 k row [] l ∙ e
 
+-- where all rows are zero, none is written yet
 pub none_written : (m : SignMap) (p : List ℕ) (rows : List (List Sign)) → MAX_PLACES ≤ length rows
     → ((k : ℕ) → k < length rows → get_or rows k [] ≡ replicate m.elements Zero) → AreWritten m p rows 1
 none_written m p rows room h = record {
@@ -183,6 +186,7 @@ none_written m p rows room h = record {
   rest = λ k g l. h k l;
 }
 
+-- if the rows of the elements below x are written, and that of x is set, those below x + 1 are written
 pub rows_more : (m : SignMap) (p : List ℕ) (rows : List (List Sign)) (x : ℕ) (row : List Sign) → 1 ≤ x
     → x - 1 < length rows → row ≡ cocircuit_vector m (p ++ x ∷ []) → AreWritten m p rows x
     → AreWritten m p (set rows (x - 1) row) (x + 1)

@@ -28,6 +28,7 @@ use Rattle.om_chirotope.proofs.SortedTuples.{before_member, before_sorted}
 pub from_tuple : (n k : ℕ) (xs : List ℕ) → IsTuple n k xs → IsIncreasing xs → IsSubsetFrom 1 n xs
 from_tuple n k xs t i = (subset_is_increasing n xs).1 (i, λ e q. each_member (IsElement n) xs t.within e q)
 
+-- an increasing list of k of the elements 1 to n is a tuple of k elements
 pub to_tuple : (n k : ℕ) (xs : List ℕ) → IsSubsetFrom 1 n xs → length xs ≡ k → IsTuple n k xs
 to_tuple n k xs h l = record { size = l; within = each_from (IsElement n) xs ((subset_is_increasing n xs).0 h).1 }
 
@@ -43,6 +44,7 @@ relations m c s a low ts ta is ia =
     } in
     relation_from_lists m.elements (suc m.rank) (value_of m) s a ts is (c.orthogonal s a pair)
 
+-- the values of a chirotope on tuples are a chirotope of the theory
 pub theory_chirotope : (m : SignMap) → IsChirotope m
     → theory.IsChirotope (elements_to m.elements) (on_tuples m.elements m.rank (chi_of m))
 theory_chirotope m c = base c.nonzero
@@ -55,6 +57,7 @@ theory_chirotope m c = base c.nonzero
 
 -- ---- and back: a nonzero tuple gives a nonzero increasing list
 
+-- an increasing list stays increasing with another number of its range
 pub lawful_with : (low m e : ℕ) (ys : List ℕ) → IsSubsetFrom low m ys → low ≤ e → e < low + m
     → IsSubsetFrom low m (with_element e ys)
 lawful_with low zero e ys h a b = absurd (omega arith)
@@ -127,6 +130,7 @@ orthogonal_of_relations m rel s a p =
     relation_to_lists m.elements (suc m.rank) (value_of m) s a ts is
     (relations_of_increasing_tuples m.elements m.rank (chi_of m) rel s a (omega arith) ts ta is ia)
 
+-- a map is a chirotope if its values on tuples are a chirotope of the theory
 pub map_chirotope : (m : SignMap) → IsMap m
     → theory.IsChirotope (elements_to m.elements) (on_tuples m.elements m.rank (chi_of m)) → IsChirotope m
 map_chirotope m w c = record { whole = w; nonzero = some_value m c; orthogonal = orthogonal_of_relations m c.relations }

@@ -49,6 +49,7 @@ module _ (m : SignMap) where
       three_term_relations chi alt (exchange_in_order chi alt (theory_exchange m ex))
       (three_terms_in_order chi alt (theory_three_terms m rel))
 
+  -- a map that passes the three-term test is a chirotope
   pub chirotope_of_test : MeetsThreeTermTest m → IsChirotope m
   chirotope_of_test t = go t.nonzero
     where
@@ -62,6 +63,7 @@ module _ (m : SignMap) where
             base = (xs, base_from m xs tuple k);
           })
 
+  -- a chirotope passes the three-term test
   pub test_of_chirotope : IsChirotope m → MeetsThreeTermTest m
   test_of_chirotope c =
       let t = theory_chirotope m c in
