@@ -22,12 +22,14 @@ module _ (columns : List Column) (m pivots : ℕ) where
   few_pivots k s first = omega arith
   few_pivots k s (next n u v r l b p) = omega arith
 
+  -- the multiplicities of a balanced end are at most MAX_MULTIPLICITY
   pub balanced_small : (counts : List Count) → IsOutcome columns m pivots (Balanced counts)
       → All (λ c. c.times ≤ MAX_MULTIPLICITY) counts
   balanced_small counts (balanced k s factor cs r b o f g t a) = λ i d l. let h =
       (a.members (get_or cs i d)).0 (Contains-get_or cs i d l) in
       t h.i (get_or cs i d).column (get_or cs i d).times h.has h.times
 
+  -- the weights of an end are at most MAX_WEIGHT in absolute value
   pub weights_small : (zs : List ℤ) → 1 ≤ m → IsOutcome columns m pivots (Weights zs)
       → All (λ z. unsigned_abs z ≤ unsigned_abs MAX_WEIGHT) zs
   weights_small zs low (weights k s r b n w) =
@@ -48,6 +50,7 @@ module _ (columns : List Column) (m pivots : ℕ) where
     pub size : length basis ≡ m
     pub most : All (λ b. b ≤ m + length columns) basis
 
+  -- the basis at the limit of pivots has a number within the range for each row
   pub limit_basis : (basis : List ℕ) → 1 ≤ m → IsOutcome columns m pivots (PivotLimit basis) → AreBasisNumbers basis
   limit_basis basis low (pivot_limit s j a) =
       let sound = reached_sound columns m pivots low pivots s a.reached in
@@ -65,6 +68,7 @@ module _ (columns : List Column) (m pivots : ℕ) where
     pub row_most : row ≤ m
     pub place_most : place ≤ m + length columns
 
+  -- the pivot, the row and the place of a width are within their ranges
   pub width_numbers : (stage : Stage) (pivot row place : ℕ) → 1 ≤ m
       → IsOutcome columns m pivots (Width stage pivot row place) → AreWidthNumbers pivot row place
   width_numbers stage pivot row place low (price_wide k s j r u w) = let f = few_pivots k s r in let h =
