@@ -51,9 +51,11 @@ plain_within w l = elim (cases_Bool (is_plain w)) [
   | inr n ↦ rw n tt
 ]
 
+-- the number that a plain word of at most three digits spells is a position
 pub plain_small : (w : List ℕ) (k : ℕ) → length w ≤ MAX_POSITION_DIGITS → Some k ≡ plain w → k ≤ MAX_POSITION
 plain_small w k l h = let i : IfSome (plain w) (λ k. k ≤ MAX_POSITION) = plain_within w l in let j = rw (← h) at i in j
 
+-- the position that a word spells is at most MAX_POSITION
 pub position_within : (w : List ℕ) → IfSome (position_of w) (λ k. k ≤ MAX_POSITION)
 position_within w = elim (cases_Bool (nat_le (length w) MAX_POSITION_DIGITS)) [
   | inl e ↦ rw e (plain_within w (at (length w) e))

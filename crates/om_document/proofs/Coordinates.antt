@@ -21,6 +21,7 @@ use mir.Val.{to_z, of_z}
 pub record AreThree (ws : List (List ℕ)) (x y z : List ℕ) (us : List (List ℕ)) : Type 0 where
   pub words : ws ≡ x ∷ y ∷ z ∷ us
 
+-- the words of a line, from its first three and the rest, taken one after the other
 pub three_words : (ws : List (List ℕ)) (x y z : List ℕ) (us vs ts : List (List ℕ)) → ws ≡ x ∷ us → us ≡ y ∷ vs
     → vs ≡ z ∷ ts → AreThree ws x y z ts
 three_words ws x y z us vs ts a b c = record { words = a ∙ ap (λ r. x ∷ r) (b ∙ ap (λ r. y ∷ r) c) }
@@ -31,17 +32,21 @@ pub long_point : (ws : List (List ℕ)) (x y z : List ℕ) (us : List (List ℕ)
 long_point ws x y z [] a h = cc
 long_point ws x y z (u ∷ us) a h = ap point_of a.words
 
+-- three words and no more spell the point of their coordinates
 pub three_point : (ws : List (List ℕ)) (x y z : List ℕ) (us : List (List ℕ)) → AreThree ws x y z us
     → not (has_any us) ≡ true → point_of ws ≡ with_three (coordinate x) (coordinate y) (coordinate z)
 three_point ws x y z [] a h = ap point_of a.words
 three_point ws x y z (u ∷ us) a h = cc
 
+-- without a first coordinate there is no point
 pub no_first : (a b c : Option ℤ) → None ≡ a → with_three a b c ≡ None
 no_first a b c h = ap (λ a. with_three a b c) (sym h)
 
+-- with a first coordinate and without a second one there is no point
 pub no_second : (x : ℤ) (a b c : Option ℤ) → Some x ≡ a → None ≡ b → with_three a b c ≡ None
 no_second x a b c h g = ap (λ a. with_three a b c) (sym h) ∙ ap (λ b. with_three (Some x) b c) (sym g)
 
+-- with two coordinates and without a third one there is no point
 pub no_third : (x y : ℤ) (a b c : Option ℤ) → Some x ≡ a → Some y ≡ b → None ≡ c → with_three a b c ≡ None
 no_third x y a b c h g f = ap (λ a. with_three a b c) (sym h) ∙ ap (λ b. with_three (Some x) b c) (sym g)
     ∙ ap (λ c. with_three (Some x) (Some y) c) (sym f)
@@ -53,6 +58,7 @@ kept x h = to_z-of_z w64 x (fits_signed_from_abs w64 x (omega arith))
 read_kept : (x : ℤ) (w : List ℕ) → Some x ≡ coordinate w → to_z w64 (of_z w64 x) ≡ x
 read_kept x w h = kept x (subst (λ o. IfSome o IsCoordinate) (sym h) (signed_within (unsigned_abs MAX_COORDINATE) w))
 
+-- three coordinates, as the code's numbers, are the point that their words spell
 pub point_read : (x y z : ℤ) (u v w : List ℕ) → Some x ≡ coordinate u → Some y ≡ coordinate v → Some z ≡ coordinate w
     → ◌≡◌ {A = Option (List ℤ)} (Some (to_z w64 (of_z w64 x) ∷ to_z w64 (of_z w64 y) ∷ to_z w64 (of_z w64 z) ∷ []))
     (with_three (coordinate u) (coordinate v) (coordinate w))

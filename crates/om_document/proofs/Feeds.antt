@@ -20,6 +20,7 @@ line_text (b ∷ l) bs h =
     let a = and_parts (not (nat_eq b 10)) (is_one_line l) h in
     rw (not-true (nat_eq b 10) a.0) (ap (with_first b) (line_text l bs a.1))
 
+-- lines without line feeds are read again from their text
 pub lines_text : (ls : List (List ℕ)) → list_all is_one_line ls ≡ true → lines (text_of ls) ≡ ls
 lines_text [] h = refl
 lines_text (l ∷ ls) h =
@@ -31,6 +32,7 @@ one_line-with_first : (b : ℕ) (ls : List (List ℕ)) → nat_eq b 10 ≡ false
 one_line-with_first b [] n h = rw n refl
 one_line-with_first b (l ∷ ls) n h = rw n h
 
+-- the lines of any bytes are without line feeds
 pub lines_one_line : (bytes : List ℕ) → list_all is_one_line (lines bytes) ≡ true
 lines_one_line [] = refl
 lines_one_line (b ∷ bs) = elim (cases_Bool (nat_eq b 10)) [
@@ -38,10 +40,12 @@ lines_one_line (b ∷ bs) = elim (cases_Bool (nat_eq b 10)) [
   | inr n ↦ rw n (one_line-with_first b (lines bs) n (lines_one_line bs))
 ]
 
+-- lines without line feeds, followed by others without them, are all without line feeds
 pub one_line-append : (xs ys : List (List ℕ)) → list_all is_one_line xs ≡ true → list_all is_one_line ys ≡ true
     → list_all is_one_line (xs ++ ys) ≡ true
 one_line-append xs ys h e = list_all-append is_one_line xs ys ∙ rw (h, e) refl
 
+-- if some lines are without line feeds, the first k of them are
 pub one_line-take : (k : ℕ) (xs : List (List ℕ)) → list_all is_one_line xs ≡ true
     → list_all is_one_line (take k xs) ≡ true
 one_line-take zero xs h = refl

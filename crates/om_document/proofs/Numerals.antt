@@ -70,6 +70,7 @@ no_leading_zero : (k : ℕ) → k < 10 ^ 64 → (length (decimal k) ≡ 1) ⊎ (
 no_leading_zero zero h = inl (ap length (decimal_digit 0 (omega arith)))
 no_leading_zero (suc k) h = inr (first_is_not (decimal (suc k)) (first_digit (suc k) (omega arith) h))
 
+-- a number below 10^64 is printed as a word of decimal digits that spells it
 pub decimal_word : (k : ℕ) → k < 10 ^ 64 → IsDecimal k
 decimal_word k h =
     let numeral = decimal_is_IsNumeral_wide k h in
@@ -83,6 +84,7 @@ decimal_word k h =
       number = numerals.same (decimal k) numeral.0.1 ∙ numeral.1;
     }
 
+-- a number below 10^6 is printed as a word that spells it as a plain number
 pub number_word : (k : ℕ) → k < 10 ^ 6 → IsNumber k
 number_word k h =
     let small : k < 2 ^ 64 = omega arith in
@@ -109,9 +111,11 @@ digits_no_minus : (w : List ℕ) → list_all is_digit w ≡ true → begins_wit
 digits_no_minus [] h = refl
 digits_no_minus (b ∷ w) h = digit_no_minus b (and_parts (is_digit b) (list_all is_digit w) h).0
 
+-- the decimal word of a number within the limit is read as this number
 pub unsigned_word : (limit k : ℕ) → IsDecimal k → k ≤ limit → unsigned limit (decimal k) ≡ Some k
 unsigned_word limit k d h = rw (d.word, d.number, le-leb k limit h) refl
 
+-- a number of absolute value up to a limit below 10^64 is printed as a word that is read as this number
 pub signed_word : (limit : ℕ) (z : ℤ) → limit < 10 ^ 64 → unsigned_abs z ≤ limit → IsSigned limit z
 signed_word limit (pos n) l h =
     let d = decimal_word n (omega arith) in

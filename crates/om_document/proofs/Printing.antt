@@ -17,6 +17,7 @@ use Rattle.om_lines.specs.Words.{byte_of}
 use Rattle.om_document.specs.Print.{text_of, cut, sign_lines, member_lines, block_text, block_lines, spaced}
 use Rattle.om_document.specs.Print.{point_lines, kind_text, body_lines, printed, unnamed_map}
 
+-- the text of some lines and then others is the text of the first and then that of the others
 pub text_of-append : (xs ys : List (List ℕ)) → text_of (xs ++ ys) ≡ text_of xs ++ text_of ys
 text_of-append [] ys = refl
 text_of-append (x ∷ xs) ys = ap (λ r. x ++ 10 ∷ r) (text_of-append xs ys)
@@ -31,9 +32,11 @@ drop_least k xs h = elim (cases_lt 64 (length xs)) [
   | inr g ↦ drop_of_length-le xs g ∙ sym (drop_of_length-le xs (omega arith))
 ]
 
+-- where the test for length 0 fails, the length is positive
 pub not_empty : (n : ℕ) (b : Bool) → b ≡ nat_eq n 0 → b ≡ false → 0 < n
 not_empty n b e f = let h : n ≡ 0 → ⊥ = eqb-false n 0 (sym e ∙ f) in omega arith
 
+-- where the test for length 0 succeeds, the length is 0
 pub no_bytes : (n : ℕ) (b : Bool) → b ≡ nat_eq n 0 → b ≡ true → n ≡ 0
 no_bytes n b e f = eqb-true n 0 (sym e ∙ f)
 

@@ -179,6 +179,7 @@ body_reread n b names f =
 pub printed_one_line : (d : Document) → IsInForm d → list_all is_one_line (printed_lines d) ≡ true
 printed_one_line d f = one_lines d f (body_reread d.elements d.body d.names f)
 
+-- the printed lines of a document within the limits spell it with its members sorted and without names
 pub printed_spelled : (d : Document) → IsInForm d → IsSpelled (wordful (printed_lines d)) (sorted_document d)
 printed_spelled d f = reread d f (body_reread d.elements d.body d.names f)
 

@@ -227,6 +227,7 @@ others_differ x (y ∷ ys) = elim (cases_Bool (same_row x y)) [
   | inr n ↦ rw n (All-cons (λ y. x ≢ y) y _ (λ q. let t = (same_row-Decides x y).1 q in cc) (others_differ x ys))
 ]
 
+-- members without repetition differ from one another
 pub distinct_differ : (xs : List (List Sign)) → AllPairs (λ x y. x ≢ y) (distinct xs)
 distinct_differ [] = λ i j d l m. absurd (omega arith)
 distinct_differ (x ∷ xs) = AllPairs-cons (λ x y. x ≢ y) x _ (others_differ x (distinct xs))

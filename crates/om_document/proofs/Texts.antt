@@ -140,6 +140,7 @@ wordful_spaced (l ∷ ls) h =
     ap (λ x. filter has_any (x ∷ map words (map spaced ls))) (words_spaced l b.1)
     ∙ rw b.0 (ap (λ x. l ∷ x) (wordful_spaced ls a.1))
 
+-- words with single spaces between them are lines without line feeds
 pub spaced_one_lines : (ls : List (List (List ℕ))) → list_all is_word_line ls ≡ true
     → list_all is_one_line (map spaced ls) ≡ true
 spaced_one_lines [] h = refl
