@@ -36,6 +36,7 @@ verdict_rank m b v (decide.undecided zs u end unfound) = end.rank
 verdict_rank m b v (decide.pivot_limit basis u end unfound) = end.rank
 verdict_rank m b v (decide.width stage pivot row place u end unfound) = end.rank
 
+-- if a verdict on a chirotope within the limit of elements is in form, its evidence is valid and shows what it should
 pub verdict_decided : (m : SignMap) (b : Budgets) (v : Verdict) → 1 ≤ m.elements → m.elements ≤ MAX_ELEMENTS
     → IsChirotope m → decide.IsVerdictOf m b v → IsVerdictInForm v → IsDecided m b v
 verdict_decided m b v low high axioms verdict form = record {
@@ -49,6 +50,7 @@ verdict_decided m b v low high axioms verdict form = record {
 
 -- ---- decisions as answers
 
+-- the document of a chirotope of rank 3 within the limits is in form
 pub document_form : (m : SignMap) → m.rank ≡ 3 → IsChirotopeWithinLimits m → IsInForm (chirotope_document m)
 document_form m three sound = record {
   low = sound.limits.low;
@@ -67,5 +69,6 @@ means_replies : (b : Budgets) (m : SignMap) (a : Answer) → DecisionMeans b m a
 means_replies b m a (other_rank other) = tt
 means_replies b m a (decided v is) = (document_form m is.rank is.sound, is.form)
 
+-- the answers of `decide` are answers to a command
 pub decision_replies : (b : Budgets) (d : Document) (a : Answer) → IsDecision b d a → IsReply a
 decision_replies b d a is = chirotope_replies (DecisionMeans b) d a (means_replies b) is

@@ -39,6 +39,7 @@ same_verdict m v w l e (limited end unfound r q) = let f = limit_of w (sym e ∙
     limited f.0 f.1 r f.2
 same_verdict m v w l e (judged k x r q h) = judged k x r (handed_on w k (sym e ∙ ap result_ok q)) h
 
+-- claims on one document with the same evidence mean the same
 pub evidence_decides : EvidenceDecides
 evidence_decides c d l same (fails_axioms why f) = fails_axioms why (subst (λ x. IsRefused x why) same.document f)
 evidence_decides c d l same (flat h bent) =

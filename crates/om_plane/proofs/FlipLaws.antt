@@ -14,6 +14,7 @@ use Rattle.om_reply.specs.Answers.{says}
 use Rattle.om_reply.specs.Above.{first_above}
 use Rattle.om_plane.specs.Flips.{triple_of, flip_refusal, IsFlipOfMap, other_rank, no_basis, no_mutation}
 
+-- if none of three elements is above n, the third is at most n
 pub within_of_none : (n a b c : ℕ) → first_above n (triple_of a b c) ≡ None → c ≤ n
 within_of_none n a b c none = elim (cases_lt n c) [
   | inl lt ↦ elim (cases_lt n a) [

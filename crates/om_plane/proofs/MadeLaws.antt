@@ -17,6 +17,7 @@ use Rattle.om_plane.specs.MadeInputs.{IsMade, made}
 pub made_some : (seed count : ℕ) → 1 ≤ length (made_vectors seed count)
 made_some seed count = let e = length-append unit_vectors (vectors_drawn seed (count - 3)) in omega arith
 
+-- the answers of `make` are answers to a command
 pub made_replies : (seed count : ℕ) (a : Answer) → IsMade seed count a → IsReply a
 made_replies seed count a (made t tally back) = made_some seed count
 

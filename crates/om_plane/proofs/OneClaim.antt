@@ -42,6 +42,7 @@ one_verdict_line m v l k (judged e x r p h) (limited end u s q) = absurd (no_evi
 one_verdict_line m v l k (judged e x r p h) (judged f y s q i) = let same : f ≡ e = cc in
     one_evidence_line m e x y h (subst (λ z. EvidenceMeans m z y) same i)
 
+-- a claim means one line at most
 pub one_claim_line : (c : Claim) (l m : Line) → ClaimMeans c l → ClaimMeans c m → l ≡ m
 one_claim_line c l m (fails_axioms v f) (fails_axioms w g) = ap refused_line (one_refused c.document v w f g)
 one_claim_line c l m (fails_axioms v f) (flat h bent) = absurd (not_refused c.document v h f)

@@ -62,6 +62,7 @@ one_tally m t u h g =
 
 -- ---- made inputs
 
+-- all answers of `make` to the same number and the same count look alike
 pub made_determined : (seed count : ℕ) → IsDetermined (IsMade seed count)
 made_determined seed count a b (made t h back) (made u g also) =
     let vectors = made_vectors seed count in

@@ -117,6 +117,7 @@ module _ (m : SignMap) where
       same_chosen (nth sets i) (nth others i) (s.0 ∙ sym t.0)
       (same_triple m.elements (nth sets i).elements (nth others i).elements s.1.triple t.1.triple (omega arith)))
 
+  -- all answers of `mutations` to a map look alike
   pub mutations_determined : IsDetermined (AreMutationsOfMap m)
   mutations_determined a b (mutations.other_rank other) (mutations.other_rank another) = (refl, refl)
   mutations_determined a b (mutations.other_rank other) (mutations.listed sets three all) = absurd (other three)
@@ -126,6 +127,7 @@ module _ (m : SignMap) where
 
 -- ---- extensions
 
+-- all answers of `extend` to a map look alike, for the same greatest number of lines
 pub extension_lists_determined : (first : ℕ) (m : SignMap) → IsDetermined (AreExtensionsOfMap first m)
 extension_lists_determined first m a b (extensions.other_rank other) (extensions.other_rank another) = (refl, refl)
 extension_lists_determined first m a b (extensions.other_rank other) (extensions.full three most) = absurd (other three)
@@ -153,6 +155,7 @@ extension_lists_determined first m a b (extensions.listed l three few are) (exte
 
 -- ---- decisions
 
+-- all answers of `decide` to a map look alike, within the same budgets
 pub decisions_determined : (b : Budgets) (m : SignMap) → IsDetermined (DecisionMeans b m)
 decisions_determined b m x y (decisions.other_rank other) (decisions.other_rank another) = (refl, refl)
 decisions_determined b m x y (decisions.other_rank other) (decisions.decided v is) = absurd (other is.rank)
@@ -162,6 +165,7 @@ decisions_determined b m x y (decisions.decided v is) (decisions.decided w also)
 
 -- ---- wirings and flips
 
+-- all answers of `wiring` to a map look alike
 pub wirings_determined : (m : SignMap) → IsDetermined (IsWiringOfMap m)
 wirings_determined m a b (sweeps.other_rank other) (sweeps.other_rank another) = (refl, refl)
 wirings_determined m a b (sweeps.other_rank other) (sweeps.not_sweepable s t three first) = absurd (other three)
@@ -213,6 +217,7 @@ flips_determined_of_map t m a b (flips.turned d three mutation made form) (flips
 flips_determined_of_map t m a b (flips.turned d three mutation made form) (flips.turned f again turned by whole) =
     alike (shows d) (shows f) (ap shows (made ∙ sym by))
 
+-- all answers of `flip` to a document look alike, for the same three elements
 pub flips_determined : (x y z : ℕ) (d : Document) → IsDetermined (IsFlip x y z d)
 flips_determined x y z d a b (flips.outside e p) (flips.outside f q) = one_place _ e f p q
 flips_determined x y z d a b (flips.outside e p) (flips.inside b' none means) = absurd (none-some e (sym none ∙ p))

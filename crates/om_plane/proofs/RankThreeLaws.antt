@@ -42,6 +42,7 @@ wiring_of_map_replies m a (sweeps.other_rank other) = tt
 wiring_of_map_replies m a (sweeps.not_sweepable s b three first) = tt
 wiring_of_map_replies m a (sweeps.least blocks three sweepable least form) = form
 
+-- the answers of `wiring` are answers to a command
 pub wiring_replies : (d : Document) (a : Answer) → sweeps.IsWiringOf d a → IsReply a
 wiring_replies d a is = chirotope_replies sweeps.IsWiringOfMap d a wiring_of_map_replies is
 
@@ -49,6 +50,7 @@ mutations_of_map_reply : (m : SignMap) (a : Answer) → mutations.AreMutationsOf
 mutations_of_map_reply m a (mutations.other_rank other) = tt
 mutations_of_map_reply m a (mutations.listed sets three all) = tt
 
+-- the answers of `mutations` are answers to a command
 pub mutations_replies : (d : Document) (a : Answer) → mutations.AreMutations d a → IsReply a
 mutations_replies d a is = chirotope_replies mutations.AreMutationsOfMap d a mutations_of_map_reply is
 
@@ -57,6 +59,7 @@ extensions_of_map_reply first m a (extensions.other_rank other) = tt
 extensions_of_map_reply first m a (extensions.full three most) = tt
 extensions_of_map_reply first m a (extensions.listed l three few are) = tt
 
+-- the answers of `extend` are answers to a command
 pub extensions_reply : (first : ℕ) (d : Document) (a : Answer) → extensions.AreExtensions first d a → IsReply a
 extensions_reply first d a is =
     chirotope_replies (extensions.AreExtensionsOfMap first) d a (extensions_of_map_reply first) is
@@ -67,6 +70,7 @@ flip_of_map_replies t m a (flips.no_basis three zero) = tt
 flip_of_map_replies t m a (flips.no_mutation s b three basis first) = tt
 flip_of_map_replies t m a (flips.turned e three mutation same form) = form
 
+-- the answers of `flip` are answers to a command
 pub flip_replies : (x y z : ℕ) (d : Document) (a : Answer) → flips.IsFlip x y z d a → IsReply a
 flip_replies x y z d a (flips.outside e above) = tt
 flip_replies x y z d a (flips.inside b none is) =

@@ -34,6 +34,7 @@ short_from n blocks done (b ∷ rest) high wiring same =
         let last = step.high in
         record { first = omega (arith, proper, last, high); last = omega (arith, last, high) }
 
+-- the document of a wiring diagram is in form, if its numbers of elements and of blocks are within the limits
 pub wiring_in_form : (n k : ℕ) (blocks list : List Block) (names : List (List ℕ)) → names ≡ [] → k ≡ n → list ≡ blocks
     → 1 ≤ k → k ≤ MAX_ELEMENTS → length blocks ≤ MAX_BLOCKS → IsWiring n blocks
     → IsInForm (record { elements = k; body = Wiring list; names = names })

@@ -292,6 +292,7 @@ document_bytes m three sound =
 
 -- ---- the text
 
+-- the text of a verdict of `decide` on a map has no more bytes than an input may have
 pub verdict_short : (m : SignMap) (b : Budgets) (v : Verdict) → IsDecided m b v → length (verdict_text m v) ≤ MAX_INPUT
 verdict_short m b v is =
     let d = document_bytes m is.rank is.sound in
