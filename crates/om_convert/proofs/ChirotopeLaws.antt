@@ -36,9 +36,11 @@ module _ (m : SignMap) where
     pub circuit_lengths : HaveLength m.elements circuits
     circuit_lengths = lengths (IsCircuitOfChirotope m) circuits all m.elements (circuit_length m)
 
+    -- a list of all circuits of a chirotope meets the axioms of circuits
     pub circuits_lawful : IsChirotope m → MeetsCircuitAxioms circuits
     circuits_lawful c = circuit_axioms (IsCircuitOfChirotope m) circuits all (family_axioms.circuit_axioms m c)
 
+    -- a chirotope and a list of all its circuits denote the same oriented matroid
     pub same_as_circuits : IsChirotope m → (d : Listing) → d.elements ≡ m.elements → d.members ≡ circuits
         → DenoteTheSame m.elements (IsCovectorOfChirotope m) (IsCovectorOfCircuits d)
     same_as_circuits c d e q X l =
@@ -54,9 +56,11 @@ module _ (m : SignMap) where
     pub cocircuit_lengths : HaveLength m.elements cocircuits
     cocircuit_lengths = lengths (IsCocircuitOfChirotope m) cocircuits all m.elements (cocircuit_length m)
 
+    -- a list of all cocircuits of a chirotope meets the axioms of circuits, which are those of cocircuits too
     pub cocircuits_lawful : MeetsCircuitAxioms cocircuits
     cocircuits_lawful = circuit_axioms (IsCocircuitOfChirotope m) cocircuits all (family_axioms.cocircuit_axioms m c)
 
+    -- a chirotope and a list of all its cocircuits denote the same oriented matroid
     pub same_as_cocircuits : (d : Listing) → d.elements ≡ m.elements → d.members ≡ cocircuits
         → DenoteTheSame m.elements (IsCovectorOfChirotope m) (IsCovectorOfCocircuits d)
     same_as_cocircuits d e q X l =
@@ -100,10 +104,12 @@ module _ (m : SignMap) where
     pub covector_lengths : HaveLength m.elements members
     covector_lengths = lengths (IsCovectorOfChirotope m) members all m.elements (λ X x. x.size)
 
+    -- a list of all covectors of a chirotope meets the axioms of covectors
     pub covectors_lawful : IsChirotope m → MeetsCovectorAxioms members
     covectors_lawful c = covector_axioms (IsCovectorOfChirotope m) members all m.elements
         (family_axioms.covector_axioms m c)
 
+    -- a chirotope and a list of all its covectors denote the same oriented matroid
     pub same_as_covectors : (d : Listing) → d.elements ≡ m.elements → d.members ≡ members
         → DenoteTheSame m.elements (IsCovectorOfChirotope m) (IsCovectorOfCovectors d)
     same_as_covectors d e q X l = (

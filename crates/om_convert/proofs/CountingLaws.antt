@@ -38,6 +38,7 @@ tail_distinct X xs d = λ i j e l m. d (suc i) (suc j) e (omega arith) (omega ar
 head_distinct : (X : List Sign) (xs : List (List Sign)) → AreDistinct (X ∷ xs) → (Z : List Sign) → Contains xs Z → X ≢ Z
 head_distinct X xs d Z c q = d 0 (suc c.0) Z (omega arith) (let l = c.1 in omega arith) (q ∙ sym c.2)
 
+-- if distinct vectors all stand in a list, they are no more than its members
 pub distinct_few : (xs ys : List (List Sign)) → AreDistinct xs → ((X : List Sign) → Contains xs X → Contains ys X)
     → length xs ≤ length ys
 distinct_few [] ys d h = omega arith
@@ -53,6 +54,7 @@ distinct_few (X ∷ xs) ys d h =
 
 -- ---- families
 
+-- if a family has more than k members, then so has each family that holds it
 pub more_of_more : (k : ℕ) (P Q : List Sign → Type 0) → ((X : List Sign) → P X → Q X) → HasMoreThan k P
     → HasMoreThan k Q
 more_of_more k P Q f h =
@@ -64,6 +66,7 @@ cause_of_cause P Q f (TooWide values) c = c
 cause_of_cause P Q f (TooMany limit) c = (c.0, more_of_more MAX_MEMBERS P Q f c.1)
 cause_of_cause P Q f Memory c = tt
 
+-- a family has no more members than a list may have, if all stand in a list of at most so many
 pub listed_within : (P : List Sign → Type 0) (members : List (List Sign)) → AreAllOf P members
     → length members ≤ MAX_MEMBERS → IsWithinLimit P
 listed_within P members all few h =

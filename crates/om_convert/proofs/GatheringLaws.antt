@@ -31,6 +31,7 @@ pub unchanged : (P : List Sign → Type 0) (old : List (List Sign)) → ((X : Li
     → IsExtendedBy P old old
 unchanged P old h = record { rest = []; kept = sym (append-nil old); sound = λ X c. inl c; complete = h }
 
+-- a list with a vector put at its end is extended by this vector alone
 pub pushed : (old : List (List Sign)) (X : List Sign) → IsExtendedBy (λ Z. Z ≡ X) old (old ++ X ∷ [])
 pushed old X = record {
   rest = X ∷ [];
@@ -39,6 +40,7 @@ pushed old X = record {
   complete = λ Z q. subst (Contains (old ++ X ∷ [])) (sym q) (Contains-push old X);
 }
 
+-- distinct vectors stay so with a new vector at their end
 pub pushed_distinct : (old : List (List Sign)) (X : List Sign) → AreDistinct old → (Contains old X → ⊥)
     → AreDistinct (old ++ X ∷ [])
 pushed_distinct old X d n =

@@ -18,12 +18,14 @@ found X Y h = (same_vectors X Y (same_masks X Y) refl).0 h
 masks_of_same : (X Y : List Sign) → X ≡ Y → same_masks X Y ≡ true
 masks_of_same X Y q = (same_vectors X Y (same_masks X Y) refl).1 q
 
+-- a vector that has the masks of some member of a list is in the list
 pub contained : (keys : List (List Sign)) (X : List Sign) → list_any (same_masks X) keys ≡ true → Contains keys X
 contained keys X h = Contains-list_any same_masks found keys X h
 
 pub is_found : (keys : List (List Sign)) (X : List Sign) → Contains keys X → list_any (same_masks X) keys ≡ true
 is_found keys X c = list_any_at (same_masks X) keys c.0 X c.1 (masks_of_same X (get_or keys c.0 X) (sym c.2))
 
+-- a vector that has the masks of no member of a list isn't in the list
 pub not_contained : (keys : List (List Sign)) (X : List Sign) → list_any (same_masks X) keys ≡ false → Contains keys X
     → ⊥
 not_contained keys X h c = true≢false (sym (is_found keys X c) ∙ h)

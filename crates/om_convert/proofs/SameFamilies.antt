@@ -27,6 +27,7 @@ pub joined : (n k : ℕ) (P Q R : List Sign → Type 0) → k ≡ n → DenoteTh
 joined n k P Q R q a b X l = (λ x. (b X (l ∙ sym q)).0 ((a X l).0 x), λ x. (a X l).1 ((b X (l ∙ sym q)).1 x))
 
 module _ (P Q : List Sign → Type 0) (both : (X : List Sign) → P X ↔ Q X) where
+  -- a list of the members of a family is one of the members of an equal family
   pub all_same : (members : List (List Sign)) → AreAllOf P members → AreAllOf Q members
   all_same members h = record { sound = λ X x. (both X).0 (h.sound X x); complete = λ X x. h.complete X ((both X).1 x) }
 
@@ -34,6 +35,7 @@ module _ (P Q : List Sign → Type 0) (both : (X : List Sign) → P X ↔ Q X) w
   more_same h =
       record { members = h.members; many = h.many; distinct = h.distinct; each = λ k d l. (both _).0 (h.each k d l) }
 
+  -- why the members of a family aren't listed is why those of an equal family aren't
   pub cause_same : (e : ConvertError) → IsCause P e → IsCause Q e
   cause_same (TooWide values) h = h
   cause_same (TooMany limit) h = (h.0, more_same h.1)
@@ -45,6 +47,7 @@ module _ (P Q : List Sign → Type 0) (both : (X : List Sign) → P X ↔ Q X) w
 pub turned : (P Q : List Sign → Type 0) → ((X : List Sign) → P X ↔ Q X) → (X : List Sign) → Q X ↔ P X
 turned P Q both X = ((both X).1, (both X).0)
 
+-- if a family has no more members than a list may have, then neither has an equal family
 pub within_same : (P Q : List Sign → Type 0) → ((X : List Sign) → P X ↔ Q X) → IsWithinLimit P → IsWithinLimit Q
 within_same P Q both h = λ more. h (more_same Q P (turned P Q both) more)
 

@@ -65,6 +65,7 @@ rank_of_same n k P Q rank e both r = record {
 
 -- ---- rank 3
 
+-- what denotes the same as a chirotope of rank 3 on at most MAX_ELEMENTS elements has few values
 pub narrow_of_rank_3 : (n : ℕ) (P : List Sign → Type 0) (m : SignMap) → n ≤ MAX_ELEMENTS → IsChirotope m
     → m.elements ≡ n → DenoteTheSame n P (IsCovectorOfChirotope m) → m.rank ≡ 3 → HasFewValuesFor n P
 narrow_of_rank_3 n P m high om q same three =
@@ -73,11 +74,13 @@ narrow_of_rank_3 n P m high om q same three =
 -- ---- causes
 
 module _ (n : ℕ) (P Q : List Sign → Type 0) where
+  -- why a list isn't converted to a chirotope is why it isn't converted to another list
   pub list_of_width : (e : ConvertError) → IsWidthCause n P e → IsListCause n P Q e
   list_of_width (TooWide values) h = h
   list_of_width (TooMany limit) h = absurd h
   list_of_width Memory h = h
 
+  -- why the members of a family aren't listed is why a list whose chirotope isn't too wide isn't converted to them
   pub list_of_cause : HasFewValuesFor n P → (e : ConvertError) → IsCause Q e → IsListCause n P Q e
   list_of_cause narrow (TooWide values) h = absurd h
   list_of_cause narrow (TooMany limit) h = (h.0, h.1, narrow)
