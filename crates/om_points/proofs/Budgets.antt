@@ -153,6 +153,7 @@ small_words_number b (suc f) =
     back w h = let u = h.2 in
         elim (cases_lt f (length w)) [ inl l ↦ inr (h.0, omega arith) | inr l ↦ inl (h.0, h.1, l) ]
 
+-- the number of nonempty words, by the numbers of candidates and of free elements
 pub words_number : (b : ℕ) (s : Start)
     → HasNumber (λ w. IsWord b s w × (1 ≤ length w)) (words_of (candidates_in b) (length s.free))
 words_number b s = number_same (IsWordUpToSize b (length s.free)) (λ w. IsWord b s w × (1 ≤ length w))

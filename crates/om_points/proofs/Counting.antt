@@ -54,6 +54,7 @@ number_less {A} P Q k j x p q sub here out =
 
 -- ---- counting
 
+-- as many things have one property as another, if the two are equivalent
 pub number_same : {A : Type 0} (P Q : A → Type 0) (k : ℕ) → HasNumber P k → ((x : A) → P x ↔ Q x) → HasNumber Q k
 number_same P Q k h e = (
   h.0,
@@ -64,9 +65,11 @@ number_same P Q k h e = (
   h.2,
 )
 
+-- if nothing has a property, then 0 things have it
 pub number_none : {A : Type 0} (P : A → Type 0) → ((x : A) → P x → ⊥) → HasNumber P 0
 number_none P n = ([], record { different = tt; exactly = λ x. (λ h. absurd h, λ p. n x p) }, refl)
 
+-- exactly 1 thing is equal to x
 pub number_one : {A : Type 0} (x : A) → HasNumber (λ y. y ≡ x) 1
 number_one x = (
   x ∷ [],
@@ -97,6 +100,7 @@ different_append (x ∷ xs) ys d e n = (
   different_append xs ys d.1 e (λ y a b. n y (inr a) b),
 )
 
+-- the numbers of things with two properties add up, if nothing has both
 pub number_either : {A : Type 0} (P Q : A → Type 0) (k j : ℕ) → HasNumber P k → HasNumber Q j
     → ((x : A) → P x → Q x → ⊥) → HasNumber (λ x. P x ⊎ Q x) (k + j)
 number_either P Q k j p q n = (

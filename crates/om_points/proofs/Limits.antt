@@ -50,11 +50,13 @@ vector_within box m s w e l h = elim (cases_lt (place_of e (order s)) (length (p
   | inr b ↦ subst IsWithinLimit (sym (get_or_past (placed m s w) (place_of e (order s)) zero_vector b)) zero_within
 ]
 
+-- a search finds no more vectors than there are elements
 pub found_few : (box : ℕ) (m : SignMap) (budget : ℕ) (vs : List WholeVector) → IsFound box m budget vs
     → length vs ≤ m.elements
 found_few box m budget vs h = let e = ap length h.vectors
     ∙ length-map-range_with_len (vector_by m h.start h.word) 1 m.elements in omega arith
 
+-- the vectors that a search finds are within the limit of coordinates, if the box is within its own
 pub found_within : (box : ℕ) (m : SignMap) (budget : ℕ) (vs : List WholeVector) → box ≤ MAX_BOX
     → IsFound box m budget vs → All IsWithinLimit vs
 found_within box m budget vs l h =
@@ -63,10 +65,12 @@ found_within box m budget vs l h =
     (λ k d b. vector_within box m h.start h.word (get_or (range_with_len 1 m.elements) k d) l
     h.first.full.word.candidates))
 
+-- a frontier has no more vectors than there are elements
 pub frontier_few : (box : ℕ) (m : SignMap) (budget : ℕ) (w : List WholeVector) → IsFrontier box m budget w
     → length w ≤ m.elements
 frontier_few box m budget w h = let f = h.visited.word.few in let n = order_small m h.start h.is_start in omega arith
 
+-- the vectors of a frontier are within the limit of coordinates, if the box is within its own
 pub frontier_within : (box : ℕ) (m : SignMap) (budget : ℕ) (w : List WholeVector) → box ≤ MAX_BOX
     → IsFrontier box m budget w → All IsWithinLimit w
 frontier_within box m budget w l h = candidates_within box w l h.visited.word.candidates
