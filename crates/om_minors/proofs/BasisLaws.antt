@@ -99,12 +99,14 @@ module _ (m : SignMap) where
       ⊎_elim (λ k. basis_list e true b.0 b.1 (inner e b.0 k))
       (λ off. absurd (none (basis_list e false b.0 b.1 (outside e b.0 off)))) (member_or_not e b.0)
 
+  -- an element of a chirotope that is in no basis is avoided by some basis
   pub basis_without : IsChirotope m → (e : ℕ) → (HasBasis m e true → ⊥) → HasBasis m e false
   basis_without om e none =
       let b = (theory_chirotope m om).base in
       ⊎_elim (λ k. absurd (none (basis_list e true b.0 b.1 (inner e b.0 k))))
       (λ off. basis_list e false b.0 b.1 (outside e b.0 off)) (member_or_not e b.0)
 
+  -- if some basis has an element, the rank is at least 1
   pub rank_low : (e : ℕ) → HasBasis m e true → 1 ≤ m.rank
   rank_low e (xs, b, w) = let s = b.size in let k = long xs (w.0 refl) in omega (arith, s, k)
     where
@@ -144,6 +146,7 @@ module _ (m : SignMap) where
       (such_or_not e inside (subset_at m.elements m.rank k) t.lawful t.size))
       (decide_below e inside k (omega arith))
 
+  -- some basis has e, or avoids it, as `inside` says, or none does
   pub decide_basis : (e : ℕ) (inside : Bool) → HasBasis m e inside ⊎ (HasBasis m e inside → ⊥)
   decide_basis e inside = ⊎_elim (λ h. inl h)
       (λ none. inr (λ h. none_at_all (IsSuch e inside) m.elements m.rank none h.0 h.1.list h.1.size (h.1, h.2)))

@@ -45,6 +45,7 @@ module _ (P : List Sign → Type 0) (vectors : List (List Sign)) (all : AreAllOf
     least = λ Y y k sub. x.least Y (all.complete Y y) (nonzero_list_not_zero Y k) sub;
   }
 
+  -- those vectors of a list of a family's members that are minimal are its members of least support
   pub least_all : (list : List (List Sign)) → AreThose (IsMinimal vectors) vectors list
       → AreAllOf (IsOfLeastSupport P) list
   least_all list those = record {

@@ -67,6 +67,7 @@ module _ (n e : ℕ) (low : 1 ≤ e) (high : e ≤ n) where
   pub shorter : (X : List Sign) → length X ≡ n → length (remove X (e - 1)) + 1 ≡ n
   shorter X l = length-remove X (e - 1) (inside X l) ∙ l
 
+  -- n signs without the place of e are one sign fewer
   pub shorter_of : (X W : List Sign) → length W ≡ n → remove W (e - 1) ≡ X → length X + 1 ≡ n
   shorter_of X W l r = ap (λ V. length V + 1) (sym r) ∙ shorter W l
 

@@ -29,6 +29,7 @@ use Rattle.om_minors.proofs.Turning.{reoriented_axioms, is_reorientation}
 
 -- ---- families that denote the same
 
+-- each family denotes the same as itself
 pub the_same : (n : ℕ) (P : List Sign → Type 0) → DenoteTheSame n P P
 the_same n P X l = (λ x. x, λ x. x)
 
@@ -58,6 +59,7 @@ reorientation_same mask n P Q A B a b h X l =
     let size = length-flip mask X ∙ l in
     (λ q. (a (flip mask X) size).1 ((h X l).0 ((b X l).0 q)), λ p. (b X l).1 ((h X l).1 ((a (flip mask X) size).0 p)))
 
+-- families that denote the same as a family and its dual are a family and its dual
 pub dual_between : (n : ℕ) (P Q A B : List Sign → Type 0) → DenoteTheSame n P A → DenoteTheSame n Q B → IsDual n P Q
     → IsDual n A B
 dual_between n P Q A B a b dual Y l = (

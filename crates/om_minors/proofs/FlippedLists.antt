@@ -149,6 +149,7 @@ module _ (mask : ℕ) where
     get_or-map (flip mask) members k (flip mask X) X l ∙ ap (flip mask) q ∙ flip_twice X,
   )
 
+  -- distinct vectors stay so when all are reoriented on a mask
   pub flipped_distinct : (members : List (List Sign)) → AreDistinct members → AreDistinct (map (flip mask) members)
   flipped_distinct members distinct i j d before l q =
       let later : j < length members = subst (λ n. j < n) (length-map members (flip mask)) l in
@@ -157,6 +158,7 @@ module _ (mask : ℕ) where
       ∙ ap (flip mask) (sym (get_or-map (flip mask) members i d d earlier) ∙ q
       ∙ get_or-map (flip mask) members j d d later) ∙ flip_twice (get_or members j d))
 
+  -- vectors with n signs each keep this number when all are reoriented on a mask
   pub flipped_lengths : (n : ℕ) (members : List (List Sign)) → All (λ X. length X ≡ n) members
       → All (λ X. length X ≡ n) (map (flip mask) members)
   flipped_lengths n members lengths k d l =

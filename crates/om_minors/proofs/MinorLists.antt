@@ -130,6 +130,7 @@ module _ (m : SignMap) (om : IsChirotope m) (e : ℕ) (several : 2 ≤ m.element
 
   -- ---- in every case
 
+  -- the normal form of the deletion's map denotes the deletion of e, if some basis avoids e
   pub deletion_at : (d : SignMap) → HasBasis m e false → IsNormalFormOf (deleted e m) d
       → IsDeletion m.elements e (IsCovectorOfChirotope m) (IsCovectorOfChirotope d)
   deletion_at d b h = is_deletion (deleted e m) d (deletion e (on_tuples (suc (m.elements - 1)) m.rank (chi_of m))) refl
@@ -138,6 +139,7 @@ module _ (m : SignMap) (om : IsChirotope m) (e : ℕ) (several : 2 ≤ m.element
       (on_tuples (suc (m.elements - 1)) m.rank (chi_of m)) (larger_chirotope m om e several low high)
       (larger_avoided m om e several low high b))
 
+  -- the normal form of the contraction's map denotes the deletion of e, if no basis avoids e
   pub coloop_deletion : (d : SignMap) → (HasBasis m e false → ⊥) → IsNormalFormOf (contracted e m) d
       → IsDeletion m.elements e (IsCovectorOfChirotope m) (IsCovectorOfChirotope d)
   coloop_deletion d none h =
@@ -148,6 +150,7 @@ module _ (m : SignMap) (om : IsChirotope m) (e : ℕ) (several : 2 ≤ m.element
       (subst (λ k. theory.IsColoop (on_tuples k m.rank (chi_of m)) e) (one_more m om e several low high)
       (coloop_tuple m e none)))
 
+  -- the normal form of the contraction's map denotes the contraction of e, if some basis has e
   pub contraction_at : (d : SignMap) → HasBasis m e true → IsNormalFormOf (contracted e m) d
       → IsContraction m.elements e (IsCovectorOfChirotope m) (IsCovectorOfChirotope d)
   contraction_at d b h =
@@ -157,6 +160,7 @@ module _ (m : SignMap) (om : IsChirotope m) (e : ℕ) (several : 2 ≤ m.element
       (on_tuples (suc (m.elements - 1)) m.rank (chi_of m)) (larger_chirotope m om e several low high)
       (larger_in_base m om e several low high b))
 
+  -- the normal form of the deletion's map denotes the contraction of e, if no basis has e
   pub loop_contraction : (d : SignMap) → (HasBasis m e true → ⊥) → IsNormalFormOf (deleted e m) d
       → IsContraction m.elements e (IsCovectorOfChirotope m) (IsCovectorOfChirotope d)
   loop_contraction d none h =

@@ -143,6 +143,7 @@ module _ (m : SignMap) (om : IsChirotope m) (e : ℕ) (several : 2 ≤ m.element
         (w.1 (whole_set 1 m.elements xs b.list (omega (arith, s, g, part)) e low (omega (arith, high)))))
   ]
 
+  -- the map of the deletion of e is a chirotope, if some basis avoids e
   pub deleted_axioms : HasBasis m e false → IsChirotope (deleted e m)
   deleted_axioms b = chirotope_by (deleted e m) (deletion e (on_tuples (suc (m.elements - 1)) m.rank (chi_of m)))
       (whole_by m.rank (m.elements - 1) (deletion e (value_of m)) (smaller b))
@@ -150,6 +151,7 @@ module _ (m : SignMap) (om : IsChirotope m) (e : ℕ) (several : 2 ≤ m.element
       (deletion_chirotope (m.elements - 1) e element (on_tuples (suc (m.elements - 1)) m.rank (chi_of m))
       larger_chirotope (larger_avoided b))
 
+  -- the map of the contraction of e is a chirotope, if some basis has e
   pub contracted_axioms : HasBasis m e true → IsChirotope (contracted e m)
   contracted_axioms b =
       chirotope_by (contracted e m) (contraction e (on_tuples (suc (m.elements - 1)) m.rank (chi_of m)))

@@ -161,6 +161,7 @@ module _ (m : SignMap) (om : IsChirotope m) (mask : ℕ) where
             ∙ product-zero (signs_product (turning (names mask)) t))
       ]
 
+  -- the reorientation of a chirotope on a mask is a chirotope
   pub reoriented_axioms : IsChirotope (reoriented_on mask m)
   reoriented_axioms = chirotope_by (reoriented_on mask m) (reoriented (names mask) (tuples_of m))
       (whole_by m.rank m.elements (reoriented (names mask) (chi_of m)) om.whole.part)
@@ -178,6 +179,7 @@ module _ (m : SignMap) (om : IsChirotope m) (mask : ℕ) where
       by_case true s = refl
       by_case false s = refl
 
+  -- the normal form of a chirotope reoriented on a mask denotes the reorientation of what the chirotope denotes
   pub is_reorientation : (d : SignMap) → IsNormalFormOf (reoriented_on mask m) d
       → IsReorientation m.elements mask (IsCovectorOfChirotope m) (IsCovectorOfChirotope d)
   is_reorientation d h X l =
