@@ -22,6 +22,7 @@ kept_replies Meaning d a replies (kept m b narrow is means) = replies m a means
 
 -- ---- such answers are determined
 
+-- if all answers to each map look alike, then so do those to the chirotope of a document
 pub for_kept_chirotope_determined : (Meaning : SignMap → Answer → Type 0)
     → ((m : SignMap) → IsDetermined (Meaning m)) → (d : Document) → IsDetermined (IsForKeptChirotope says Meaning d)
 for_kept_chirotope_determined Meaning determined d a b (wide v p) (wide w q) =

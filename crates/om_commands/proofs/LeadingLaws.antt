@@ -31,6 +31,7 @@ entries_within k n (x ∷ xs) entries none = elim (cases_lt n x.element) [
   | inr ge ↦ (entries.0, ge, entries_within k n xs entries.2 (rw (le-ltb n x.element ge) at none))
 ]
 
+-- a list of elements with signs for k elements is one for n, if none of its elements is above n
 pub listed_within : (k n : ℕ) (list : List Signed) → IsLexicographicList k list
     → first_above n (elements_of list) ≡ None → IsLexicographicList n list
 listed_within k n list listed none =
@@ -86,6 +87,7 @@ refused_values list m count (why_of.Values k) is values number =
     subst (λ j. IsExtensionOfMap list m (says (line.LimitValues j))) same (extension.limited over.1)
 refused_values list m count why_of.Memory is values number = cc
 
+-- a number that is at most MAX_ELEMENTS and isn't equal to it is below it
 pub fewer_elements : (n : ℕ) → n ≤ MAX_ELEMENTS → (n ≡ MAX_ELEMENTS → ⊥) → n < MAX_ELEMENTS
 fewer_elements n high other = omega (arith, high, other)
 

@@ -28,6 +28,7 @@ use Rattle.om_reply.proofs.Alike.{alike, both_say}
 
 -- ---- memberships
 
+-- all answers of `member` to a sign vector look alike, given the covectors
 pub memberships_determined : (n : ℕ) (IsCovector : List Sign → Type 0) (x : List Sign)
     → IsDetermined (IsMembership n IsCovector x)
 memberships_determined n P x a b (wrong_length other) (wrong_length another) = (refl, refl)
@@ -42,6 +43,7 @@ memberships_determined n P x a b (not_covector same none) (not_covector again al
 
 -- ---- paintings
 
+-- all answers of `paint` to a map look alike, for the same colouring
 pub paintings_determined_of_map : (c : Colouring) (m : SignMap) → IsDetermined (IsPaintingOfMap c m)
 paintings_determined_of_map c m a b (painted x h) (painted y k) =
     both_say (painted_line x) (painted_line y)
@@ -60,6 +62,7 @@ same_items m e (x ∷ xs) (y ∷ ys) same h k =
     let rest = same_items m (e + 1) xs ys (omega arith) h.1 k.1 in
     λ i. first i ∷ rest i
 
+-- all answers of `hull` to a map look alike
 pub hulls_determined : (m : SignMap) → IsDetermined (IsHullOfMap m)
 hulls_determined m a b (cyclic X none h) (cyclic Y nor k) =
     both_say (line.Cyclic X) (line.Cyclic Y) (ap (λ Z. line.Cyclic Z) (one_first _ X Y h k))
@@ -74,6 +77,7 @@ map_in_form : (x : SignMap) (e : Document) → e ≡ map_document x → IsInForm
 map_in_form x e made form = let f : IsInForm (map_document x) = subst IsInForm made form in
     record { part = f.body.rank; whole = f.body.signs }
 
+-- all answers of `lexext` to a map look alike, for the same elements with signs
 pub lexical_extensions_determined_of_map : (list : List Signed) (m : SignMap) → IsDetermined (IsExtensionOfMap list m)
 lexical_extensions_determined_of_map list m a b (limited many) (limited also) = (refl, refl)
 lexical_extensions_determined_of_map list m a b (limited many) (extended y e few is made form axioms) =

@@ -41,6 +41,7 @@ converted_alike k d e f p q =
     denoted_alike k e f (converted_normal k d e p) (converted_normal k d f q) (p.elements ∙ sym q.elements)
     (λ X size. (λ x. (q.same X).0 ((p.same X).1 x), λ x. (p.same X).0 ((q.same X).1 x)))
 
+-- all conversions of a document to one kind look alike
 pub conversions_determined : (k : Kind) (d : Document) → IsDetermined (IsConversion k d)
 conversions_determined k d a b (itself own form axioms) (itself own' form' axioms') = (refl, refl)
 conversions_determined k d a b (itself own form axioms) (wide w other' is') = absurd (apart k d.body own other')

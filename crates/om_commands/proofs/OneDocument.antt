@@ -18,6 +18,7 @@ use Rattle.om_commands.proofs.KeptLaws.{for_kept_chirotope_determined}
 
 -- ---- lexicographic extensions
 
+-- if all answers of `lexext` to each map look alike, then so do those to a document
 pub lexical_extensions_determined : (l : Leading) → ((m : SignMap) → IsDetermined (IsExtensionOfMap (given_list l) m))
     → (d : Document) → IsDetermined (IsLexicalExtension l d)
 lexical_extensions_determined l determined d x y (outside e p) (outside f q) = one_place _ e f p q
@@ -37,6 +38,7 @@ lexical_extensions_determined l determined d x y (fewer x' p less means) (fewer 
 
 module _ (c : Colouring) (determined : (m : SignMap) → IsDetermined (paintings.IsPaintingOfMap c m))
     (d : Document) where
+  -- if all answers of `paint` to each map look alike, then so do those to a document
   pub paintings_determined : IsDetermined (paintings.IsPainting c d)
   paintings_determined x y (paintings.other_length p) (paintings.other_length q) =
       both_say (line.RefusedLength c.count) (line.RefusedLength c.count) refl

@@ -60,6 +60,7 @@ few _ o n P only many = many
 
 -- ---- the answer
 
+-- all results of an operation on a document look alike
 pub operations_determined : (o : Operation) (d : Document) → IsDetermined (IsOperation o d)
 operations_determined o d a b (outside e is) (outside f is') = one_place _ e f is is'
 operations_determined o d a b (outside e is) (last none' only') = absurd (none-some e (sym none' ∙ is))

@@ -123,10 +123,12 @@ maps_determined m a b (meets h om) (meets k om') = (refl, refl)
 
 -- ---- documents
 
+-- the lines of two refusals of a document look alike
 pub refusals_determined : (d : Document) (l m : DocumentRefused) → IsRefused d l → IsRefused d m
     → AreAlike (says (refused_line l)) (says (refused_line m))
 refusals_determined d l m f g = both_say (refused_line l) (refused_line m) (ap refused_line (one_refused d l m f g))
 
+-- all answers of `threeterm` to a document look alike
 pub tests_determined : (d : Document) → IsDetermined (IsThreeTermTest d)
 tests_determined d a b (of_map m x p t) (of_map k y q u) = let same : k ≡ m = cc in
     maps_determined m x y t (subst (λ z. IsTestOfMap z y) same u)
@@ -139,6 +141,7 @@ tests_determined d a b (no_map none h) (of_map m x p t) = absurd (none m p)
 tests_determined d a b (no_map none h) (refused v other f) = absurd (not_refused d v h f)
 tests_determined d a b (no_map none h) (no_map other k) = (refl, refl)
 
+-- all answers of `upgrade` to a document look alike
 pub upgrades_determined : (d : Document) → IsDetermined (upgrade.IsUpgrade d)
 upgrades_determined d a b (upgrade.refused v f) (upgrade.refused w g) = refusals_determined d v w f g
 upgrades_determined d a b (upgrade.refused v f) (upgrade.kept h) = absurd (not_refused d v h f)

@@ -24,6 +24,7 @@ painted_replies (Cocircuit Y) = tt
 painting_of_map_replies : (c : Colouring) (m : SignMap) (a : Answer) → paintings.IsPaintingOfMap c m a → IsReply a
 painting_of_map_replies c m a (paintings.painted item is) = painted_replies item
 
+-- the answers of `paint` are answers to a command
 pub painting_replies : (c : Colouring) (d : Document) (a : Answer) → paintings.IsPainting c d a → IsReply a
 painting_replies c d a (paintings.other_length other) = tt
 painting_replies c d a (paintings.outside count above) = tt
@@ -35,6 +36,7 @@ hull_of_map_replies : (m : SignMap) (a : Answer) → hulls.IsHullOfMap m a → I
 hull_of_map_replies m a (hulls.cyclic X not first) = tt
 hull_of_map_replies m a (hulls.acyclic items is size each extreme) = tt
 
+-- the answers of `hull` are answers to a command
 pub hull_replies : (d : Document) (a : Answer) → hulls.IsHull d a → IsReply a
 hull_replies d a is = kept_replies hulls.IsHullOfMap d a hull_of_map_replies is
 
@@ -43,6 +45,7 @@ extension_of_map_replies : (list : List Signed) (m : SignMap) (a : Answer) → e
 extension_of_map_replies list m a (extensions.limited many) = tt
 extension_of_map_replies list m a (extensions.extended x e fits is same form axioms) = form
 
+-- the answers of `lexext` are answers to a command
 pub extension_replies : (l : Leading) (d : Document) (a : Answer) → extensions.IsLexicalExtension l d a → IsReply a
 extension_replies l d a (extensions.outside e above) = tt
 extension_replies l d a (extensions.full none most) = tt
