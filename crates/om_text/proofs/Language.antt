@@ -102,6 +102,7 @@ module _
     known_value None = inr refl
     known_value (Some v) = inl (v, refl)
 
+    -- if lines run a state to another, this one shows them after those that the first one shows
     pub run_shows : (ws : List (List (List ℕ))) (ls : List (List (List ℕ))) (s t : S) → Shows s ls
         → run_words step s ws ≡ Ok t → Shows t (ls ++ ws)
     run_shows [] ls s t o h = rw (append-nil ls) (subst (λ x. Shows x ls) (ok-injective s t h) o)
@@ -115,6 +116,7 @@ module _
     abbrev pub run : List (List ℕ) → Result S Code
     run ls = run_words step start (wordful ls)
 
+    -- a run goes on with further lines from the state to which the lines before them ran
     pub run-append : (xs ys : List (List ℕ)) (s : S) → run xs ≡ Ok s → run (xs ++ ys) ≡ run_words step s (wordful ys)
     run-append xs ys s h = ap (run_words step start) (wordful-append xs ys)
         ∙ run_words-append start (wordful xs) (wordful ys) ∙ ap (λ r. bind r (λ t. run_words step t (wordful ys))) h
@@ -122,6 +124,7 @@ module _
     pub run_line : (xs : List (List ℕ)) (l : List ℕ) (s : S) → run xs ≡ Ok s → run (xs ++ l ∷ []) ≡ advance_by step s l
     run_line xs l s h = run-append xs (l ∷ []) s h ∙ one_line s l
 
+    -- the value of the state to which lines run is their value in the language
     pub run_value : (ls : List (List ℕ)) (s : S) (v : V) → run ls ≡ Ok s → value s ≡ Some v → Language (wordful ls) v
     run_value ls s v h e = ends s (wordful ls) v (run_shows (wordful ls) [] start s starts h) e
 
@@ -130,6 +133,7 @@ module _
         let c = completes s (wordful ls) (run_shows (wordful ls) [] start s starts h) in
         (c.0, (c.1.is, run_value (ls ++ c.0) c.1.last c.1.is (run-append ls c.0 s h ∙ c.1.run) c.1.gives))
 
+    -- lines with which some lines of the language begin run to a state
     pub begins_run : (ls : List (List ℕ)) → Begins (AreIn Language) ls → (s : S) × (run ls ≡ Ok s)
     begins_run ls b =
         let r = runs (wordful (ls ++ b.0)) b.1.0 b.1.1 in
@@ -158,6 +162,7 @@ module _
         no : Begins (AreIn Language) (before ++ line ∷ []) → ⊥
         no b = let r = begins_run (before ++ line ∷ []) b in differ r.0 (sym e ∙ sym (run_line before line s h) ∙ r.1)
 
+    -- the outcome of lines is that of the later ones, from the state to which the first ones run
     pub outcome_passes : (xs ys : List (List ℕ)) (s t : S) (n : ℕ) → run_words step s (wordful xs) ≡ Ok t
         → outcome_by step value s n (xs ++ ys) ≡ outcome_by step value t (n + length xs) ys
     outcome_passes [] ys s t n h =
@@ -172,6 +177,7 @@ module _
         ap (λ r. then_lines r n (λ t. outcome_by step value t (n + 1) (xs ++ ys))) b.1
         ∙ outcome_passes xs ys b.0 t (n + 1) k ∙ ap (λ k. outcome_by step value t k ys) z
 
+    -- the outcome of lines of the language is their value
     pub value_outcome : (ls : List (List ℕ)) (v : V) → Language (wordful ls) v → outcome_by step value start 0 ls ≡ Ok v
     value_outcome ls v o =
         let r = runs (wordful ls) v o in
@@ -182,6 +188,7 @@ module _
     finished None n v h = cc
     finished (Some x) n v h = cc
 
+    -- if the outcome of lines after others is a value, it is the value of all of them in the language
     pub outcome_value : (ls before : List (List ℕ)) (s : S) (n : ℕ) (v : V) → run before ≡ Ok s
         → outcome_by step value s n ls ≡ Ok v → Language (wordful (before ++ ls)) v
     outcome_value [] before s n v h o = rw (append-nil before) (run_value before s v h (finished (value s) n v o))
@@ -213,6 +220,7 @@ module _
         (sym (ap (λ p. p.0) q), sym (ap (λ p. p.1) q), refl)
     ended (Some v) n m c h = cc
 
+    -- if the outcome of lines after others is a line and a code, the line is the first at fault of all of them
     pub outcome_fault : (ls before : List (List ℕ)) (s : S) (n m : ℕ) (c : Code) → run before ≡ Ok s → n ≡ length before
         → outcome_by step value s n ls ≡ Err (m, c) → IsFaultIn (AreIn Language) (code_by code_at) (before ++ ls) m c
     outcome_fault [] before s n m c h l o =
@@ -234,6 +242,7 @@ module _
     some_same : (c x : Code) → ◌≡◌ {A = Option Code} (Some c) (Some x) → c ≡ x
     some_same c x h = cc
 
+    -- the outcome of lines with a fault is the first line at fault, with its code
     pub fault_outcome : {ls : List (List ℕ)} {m : ℕ} {c : Code} → IsFaultIn (AreIn Language) (code_by code_at) ls m c
         → outcome_by step value start 0 ls ≡ Err (m, c)
     fault_outcome (at_line before line rest c b n e) =

@@ -62,6 +62,7 @@ pub fault_from : (ls : List (List ℕ)) (l : ℕ) (c : Code) → outcome Start 0
 fault_from ls l c h = outcome_fault State Document step value_of Start IsSpelled code_at Shows refl step_shows
     step_error ends runs completes ls [] Start 0 l c refl refl h
 
+-- the outcome of lines with a fault is the first line at fault, with its code
 pub outcome_from : (ls : List (List ℕ)) (l : ℕ) (c : Code) → IsFault ls l c → outcome Start 0 ls ≡ Err (l, c)
 outcome_from ls l c f = fault_outcome State Document step value_of Start IsSpelled code_at Shows refl step_shows
     step_error ends runs completes f
@@ -168,6 +169,7 @@ bytes_begin bytes k (text, e, d) = (
 
 -- an input has one outcome
 
+-- lines are one document at most
 pub same_value : (ls : List (List ℕ)) (d e : Document) → IsDocument ls d → IsDocument ls e → d ≡ e
 same_value ls d e a b = let p = document_outcome ls d a in let q = document_outcome ls e b in cc
 
@@ -178,9 +180,11 @@ same_fault ls l m c e a b =
     let q : ◌≡◌ {A = ℕ × Code} (l, c) (m, e) = cc in
     (ap (λ x. x.0) q, ap (λ x. x.1) q)
 
+-- lines that are a document have no fault
 pub no_fault : (ls : List (List ℕ)) (d : Document) (l : ℕ) (c : Code) → IsDocument ls d → IsFault ls l c → ⊥
 no_fault ls d l c a b = let p = document_outcome ls d a in let q = outcome_from ls l c b in cc
 
+-- lines are a document, or have a fault
 pub document_or_fault : (ls : List (List ℕ)) → ((d : Document) × IsDocument ls d)
     ⊎ ((l : ℕ) × (c : Code) × IsFault ls l c)
 document_or_fault ls = at (outcome Start 0 ls) refl
