@@ -22,6 +22,7 @@ use Rattle.om_representation.specs.RankThree.{IsForChirotope, for_chirotope}
 
 -- ---- the chirotope of a representation
 
+-- the chirotope of a representation has as many elements as its document
 pub elements_of : (r : Representation) (c : SignMap) → IsChirotopeOf (document_of r) c
     → c.elements ≡ (document_of r).elements
 elements_of (representation.Chirotope m) c is = ap (λ u. u.elements) is
@@ -52,6 +53,7 @@ width_answered says Meaning d unchosen.Memory is l none = absurd none
 
 -- ---- the answer for the chirotope
 
+-- what a result means for the chirotope of a document it means for the document, if the chirotope isn't too wide
 pub kept_result : {A E : Type 0} (says : Line → A) (Meaning : SignMap → A → Type 0) (d : Document) (m : SignMap)
     (result : Result A E) → IsKept d → IsChirotopeOf d m → IfOk result (Meaning m)
     → IfOk result (IsForKeptChirotope says Meaning d)

@@ -36,6 +36,7 @@ one_normal d c k p q = one_normal_map c k p.axioms q.axioms (q.elements ∙ sym 
     both X size = let long = size ∙ p.elements in
         (λ x. (q.same X long).0 ((p.same X long).1 x), λ x. (p.same X long).0 ((q.same X long).1 x))
 
+-- a document has one chirotope at most
 pub one_chirotope : (d : Document) (c k : SignMap) → IsChirotopeOf d c → IsChirotopeOf d k → c ≡ k
 one_chirotope d c k p q = by_body d.body p q
   where
@@ -47,6 +48,7 @@ one_chirotope d c k p q = by_body d.body p q
     by_body (body.Wiring blocks) p q = one_normal d c k p q
     by_body (body.Points points) p q = one_normal d c k p q
 
+-- a document whose chirotope is too wide is so with one number of values
 pub one_width : (d : Document) (v w : ℕ) → IsTooWide d v → IsTooWide d w → v ≡ w
 one_width d v w p q = p.number ∙ ap (λ m. choose m.elements m.rank) (one_chirotope d p.map q.map p.of q.of)
     ∙ sym q.number

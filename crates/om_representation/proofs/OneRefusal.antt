@@ -54,6 +54,7 @@ one_first P s t l p q f g = elim (ordered s t l) [
 abbrev IsViolatedWith : SignMap → List ℕ → List ℕ → Type 0
 IsViolatedWith m s a = IsPair m s a × (IsOrthogonalPair m s a → ⊥)
 
+-- a map has one first violated pair at most
 pub one_violated : (m : SignMap) (s a t b : Chosen) → IsFirstViolated m s a → IsFirstViolated m t b → (s ≡ t) × (a ≡ b)
 one_violated m s a t b f g = (first, same_chosen a b (f.a_n ∙ sym h.a_n) second)
   where
@@ -72,6 +73,7 @@ one_violated m s a t b f g = (first, same_chosen a b (f.a_n ∙ sym h.a_n) secon
         (f.pair, f.violated) (h.pair, h.violated) (λ u l r. r.1 (f.earlier_a u r.0 l))
         (λ u l r. r.1 (h.earlier_a u r.0 l))
 
+-- a chirotope has no violated pair
 pub not_violated : (m : SignMap) (s a : Chosen) → IsChirotope m → IsFirstViolated m s a → ⊥
 not_violated m s a c f = f.violated (c.orthogonal s.elements a.elements f.pair)
 
@@ -104,6 +106,7 @@ one_refused_on n (Wiring blocks) l m (v, (p, f)) (w, (q, g)) =
     by_reason reason.Wiring l m v w p q (one_refusal n blocks v w f g)
 one_refused_on n (Points points) l m (p, f) (q, g) = p ∙ sym q
 
+-- a document is refused for one reason at most
 pub one_refused : (d : Document) (l m : DocumentRefused) → IsRefused d l → IsRefused d m → l ≡ m
 one_refused d l m f g = one_refused_on d.elements d.body l m f g
 
@@ -115,5 +118,6 @@ not_refused_on n (Covectors members) l h (v, (p, f)) = covectors.violated_breaks
 not_refused_on n (Wiring blocks) l h (v, (p, f)) = refused_is_none n blocks v f h
 not_refused_on n (Points points) l h (p, f) = h f
 
+-- a document that meets its axioms isn't refused
 pub not_refused : (d : Document) (l : DocumentRefused) → MeetsAxioms d → IsRefused d l → ⊥
 not_refused d l h f = not_refused_on d.elements d.body l h f

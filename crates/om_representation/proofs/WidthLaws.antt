@@ -94,6 +94,7 @@ few_deleted C n r (Ok d) few size same less =
     few_of_minor (C → ⊥) C n r d.elements d.rank (λ both none. both none) size same less few
 few_deleted C n r (Err e) few size same less = tt
 
+-- a contraction has few values if the map has: its rank is one less, or, where C holds, the same
 pub few_contracted : {E : Type 0} (C : Type 0) (n r : ℕ) (result : Result SignMap E) → choose n r ≤ MAX_VALUES
     → IfOk result (λ d. d.elements + 1 ≡ n) → IfOk result (λ d. (C → ⊥) → d.rank + 1 ≡ r)
     → IfOk result (λ d. C → d.rank ≡ r) → IfOk result (λ d. choose d.elements d.rank ≤ MAX_VALUES)
@@ -101,6 +102,7 @@ few_contracted C n r (Ok d) few size less same =
     few_of_minor C (C → ⊥) n r d.elements d.rank (λ none both. both none) size same less few
 few_contracted C n r (Err e) few size less same = tt
 
+-- the map of the dual has few values if the map has
 pub few_dual : (m d : SignMap) → d.rank + m.rank ≡ m.elements → d.elements ≡ m.elements
     → choose m.elements m.rank ≤ MAX_VALUES → choose d.elements d.rank ≤ MAX_VALUES
 few_dual m d size same few =
@@ -243,6 +245,7 @@ same_members : (s : Listing) (Q : List Sign → Type 0) → DenoteTheSame s.elem
 same_members s Q same x size =
     (λ h. (same x size).0 (record { size = size; member = h }), λ q. ((same x size).1 q).member)
 
+-- the document of covectors isn't too wide if their chirotope has few values
 pub kept_covectors : (s : Listing) → HasFewValuesFor s.elements (Contains s.members) → IsKept (covectors_document s)
 kept_covectors s = kept_list (covectors_document s) (Contains s.members) (λ m is. is) (same_members s)
 
@@ -252,6 +255,7 @@ too_wide_list : (s : Listing) (values : ℕ) → IsTooWideFor s.elements (Contai
 too_wide_list s values w = too_wide (covectors_document s) (Contains s.members) values tt (λ m is. is)
     (same_covectors s) w
 
+-- the document of covectors is too wide, with the same number of values, if their chirotope is
 pub too_wide_covectors : (s : Listing) (values : ℕ) → IsTooWideFor s.elements (Contains s.members) values
     → IsTooWide (covectors_document s) values
 too_wide_covectors s values w = (too_wide_list s values w).0
