@@ -15,9 +15,11 @@ cross a b = vector_of (a.y *ℤ b.z -ℤ a.z *ℤ b.y) (a.z *ℤ b.x -ℤ a.x *�
 abbrev pub dot : WholeVector → WholeVector → ℤ
 dot a b = a.x *ℤ b.x +ℤ a.y *ℤ b.y +ℤ a.z *ℤ b.z
 
+-- a triple product is negated if its first two vectors change places
 pub swap_first : (a b c : WholeVector) → triple_product b a c ≡ neg_ℤ (triple_product a b c)
 swap_first a b c = simp expanding (omega sums)
 
+-- a triple product is negated if its last two vectors change places
 pub swap_last : (a b c : WholeVector) → triple_product a c b ≡ neg_ℤ (triple_product a b c)
 swap_last a b c = simp expanding (omega sums)
 
@@ -101,6 +103,7 @@ four_terms a b s t u v =
         → a' *ℤ p -ℤ b' *ℤ q +ℤ c' *ℤ r -ℤ d' *ℤ w ≡ pos 0 → a *ℤ p -ℤ b *ℤ q +ℤ c *ℤ r -ℤ d *ℤ w ≡ pos 0
     same p q r w e1 e2 e3 e4 h = cc
 
+-- the three-term relation [abc][ade] - [abd][ace] + [abe][acd] = 0 of triple products
 pub three_terms : (a b c d e : WholeVector) → triple_product a b c *ℤ triple_product a d e -ℤ triple_product a b d
     *ℤ triple_product a c e +ℤ triple_product a b e *ℤ triple_product a c d ≡ pos 0
 three_terms a b c d e =

@@ -13,6 +13,7 @@ use Rattle.om_signs.specs.Sign.{opposite, product}
 use Rattle.om_vectors.specs.WholeVectors.{sign_of}
 use Rattle.om_vectors.specs.Balance.{total, HasSign}
 
+-- the sign of the negative of a number is the opposite of its sign
 pub sign-neg : (z : ℤ) → sign_of (neg_ℤ z) ≡ opposite (sign_of z)
 sign-neg (pos zero) = refl
 sign-neg (pos (suc n)) = refl
@@ -22,6 +23,7 @@ positive : (n : ℕ) → 0 < n → sign_of (pos n) ≡ Plus
 positive zero l = absurd (omega arith)
 positive (suc n) l = refl
 
+-- the sign of a product of numbers is the product of their signs
 pub sign-times : (a b : ℤ) → sign_of (a *ℤ b) ≡ product (sign_of a) (sign_of b)
 sign-times (pos zero) b = ap sign_of (zero-*ℤ b)
 sign-times (pos (suc a)) (pos zero) = ap sign_of (*ℤ-zero (pos (suc a)))

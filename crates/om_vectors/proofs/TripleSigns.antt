@@ -48,6 +48,7 @@ alternating vs x y (a ∷ b ∷ []) bs = refl
 alternating vs x y (a ∷ b ∷ c ∷ []) bs = refl
 alternating vs x y (a ∷ b ∷ c ∷ d ∷ cs) bs = refl
 
+-- a map that vectors realize has the signs of their triple products on all tuples of three elements
 pub realized_value : (vs : List WholeVector) (m : SignMap) → Realizes vs m → (t : List ℕ) → IsTuple m.elements 3 t
     → value_of m t ≡ triple_sign vs t
 realized_value vs m h t tuple =

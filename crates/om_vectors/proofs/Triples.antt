@@ -22,6 +22,7 @@ use Rattle.om_vectors.proofs.NumberSigns.{sign_zero}
 abbrev pub HasItsSign : List WholeVector → SignMap → List ℕ → Type 0
 HasItsSign vs m t = triple_sign vs t ≡ chi_of m t
 
+-- a map that vectors realize has the signs of their triple products on increasing triples
 pub realized_triple : (vs : List WholeVector) (m : SignMap) → Realizes vs m → (t : List ℕ) → IsTriple m.elements t
     → triple_sign vs t ≡ chi_of m t
 realized_triple vs m h t i = of (elements_of_triple m.elements t i)
@@ -29,6 +30,7 @@ realized_triple vs m h t i = of (elements_of_triple m.elements t i)
     of : (a : ℕ) × (b : ℕ) × (c : ℕ) × (t ≡ a ∷ b ∷ c ∷ []) × IsRising m.elements a b c → triple_sign vs t ≡ chi_of m t
     of (a, b, c, e, r) = rw e (h.signs a b c r.low r.first r.second r.high)
 
+-- vectors realize a map of rank 3 on as many elements, if it has the signs of their products on increasing triples
 pub realizes_from : (vs : List WholeVector) (m : SignMap) → m.rank ≡ 3 → m.elements ≡ length vs
     → ((t : List ℕ) → IsTriple m.elements t → triple_sign vs t ≡ chi_of m t) → Realizes vs m
 realizes_from vs m r n h = record {
@@ -54,6 +56,7 @@ none_when_realized vs m (Some x) r n h = (
 abbrev pub HasSignZero : List WholeVector → List ℕ → Type 0
 HasSignZero vs t = triple_sign vs t ≡ Zero
 
+-- the vectors lie in a plane, if the triple product of each increasing triple has the sign zero
 pub low_rank_from : (vs : List WholeVector) → ((t : List ℕ) → IsTriple (length vs) t → HasSignZero vs t) → IsRankLow vs
 low_rank_from vs h a b c low ab bc high =
     sign_zero (bracket vs a b c) (h (a ∷ b ∷ c ∷ []) (triple_from (length vs) a b c low ab bc high))
@@ -66,6 +69,7 @@ rank_not_low vs t i n low = of (elements_of_triple (length vs) t i)
     of : (a : ℕ) × (b : ℕ) × (c : ℕ) × (t ≡ a ∷ b ∷ c ∷ []) × IsRising (length vs) a b c → ⊥
     of (a, b, c, e, r) = n (ap (triple_sign vs) e ∙ ap sign_of (low a b c r.low r.first r.second r.high))
 
+-- the signs of triple products are a chirotope, if that of some increasing triple isn't zero
 pub chirotope_from : (vs : List WholeVector) (t : List ℕ) → IsTriple (length vs) t → triple_sign vs t ≢ Zero
     → IsChirotope (signs_map vs)
 chirotope_from vs t i n = of (elements_of_triple (length vs) t i)
