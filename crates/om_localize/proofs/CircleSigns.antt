@@ -24,6 +24,7 @@ use Rattle.om_localize.specs.Masks.{mask_place, HasSign, IsDecided, AreOpen, cut
 
 -- ---- the signs on a circle, by places
 
+-- on the circle of e, the sign at a later element f stands in the signature at the place of the pair e, f
 pub low_sign : (n : ℕ) (xs : List Sign) (e f : ℕ) → 1 ≤ e → e < f → f ≤ n
     → signs_on_circle n xs e f ≡ at xs (rank_of n (e ∷ f ∷ []))
 low_sign n xs e f el lt fh =
@@ -31,12 +32,15 @@ low_sign n xs e f el lt fh =
     (record { size = refl; within = ((el, omega arith), ((omega arith, fh), tt)) })
     ∙ value_increasing (pair_sign n xs) (e ∷ f ∷ []) (lt, tt)
 
+-- the sign at e on the circle of f is the opposite of that at f on the circle of e
 pub turned_sign : (n : ℕ) (xs : List Sign) (e f : ℕ) → signs_on_circle n xs f e ≡ opposite (signs_on_circle n xs e f)
 turned_sign n xs e f = on_tuples_alternating n 2 (pair_sign n xs) e f [] []
 
+-- on the circle of e the sign at e is zero
 pub own_sign : (n : ℕ) (xs : List Sign) (e : ℕ) → signs_on_circle n xs e e ≡ Zero
 own_sign n xs e = own_opposite (signs_on_circle n xs e e) (turned_sign n xs e e)
 
+-- on the circle of e the signs are zero off the elements
 pub supported_signs : (n : ℕ) (xs : List Sign) (e : ℕ) → IsSupportedOn (elements_to n) (signs_on_circle n xs e)
 supported_signs n xs e f nz = member_from_element n f (on_tuples_tuple n 2 (pair_sign n xs) (e ∷ f ∷ []) nz).within.1.0
 

@@ -29,6 +29,7 @@ behind Plus Minus o l = refl
 behind Plus Zero o l = refl
 behind Plus Plus o l = absurd (omega arith)
 
+-- of two lists with as many signs the one that comes before has the smaller number
 pub number_of_before : (xs ys : List Sign) → length xs ≡ length ys → IsBefore xs ys → number xs < number ys
 number_of_before [] [] l q = cc
 number_of_before [] (y ∷ ys) l q = absurd (omega arith)
@@ -155,6 +156,7 @@ module _ (P : List Sign → Type 0) (n k : ℕ) (sized : (xs : List Sign) → P 
     pub same_at : (i : ℕ) → i < length lines → get_or lines i [] ≡ get_or others i []
     same_at i l = (agree_below (length lines) (omega arith) i l).1
 
+  -- lists of the first k members of a family whose members all have n signs are equal
   pub same_lines : (lines others : List (List Sign)) (more also : Bool) → AreFirst P k lines more
       → AreFirst P k others also → lines ≡ others
   same_lines lines others more also h g =
@@ -162,6 +164,7 @@ module _ (P : List Sign → Type 0) (n k : ℕ) (sized : (xs : List Sign) → P 
       let b = no_longer others lines also more g h in
       ext_get_or [] lines others (omega arith) (same_at lines others more also h g)
 
+  -- lists of the first k members of a family whose members all have n signs agree on whether there are more
   pub same_more : (lines others : List (List Sign)) (more also : Bool) → AreFirst P k lines more
       → AreFirst P k others also → more ≡ also
   same_more lines others more also h g =

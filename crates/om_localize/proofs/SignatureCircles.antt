@@ -32,6 +32,7 @@ use Rattle.om_localize.proofs.NewRelations as new_relations
 
 -- ---- increasing lists
 
+-- two elements of 1 to n, the smaller one first, are an increasing list of such elements
 pub pair_list : (n x y : ℕ) → 1 ≤ x → x < y → y ≤ n → IsSubsetFrom 1 n (x ∷ y ∷ [])
 pair_list n x y low lt high =
     from_tuple n 2 (x ∷ y ∷ []) (record { size = refl; within = ((low, omega arith), ((omega arith, high), tt)) })
