@@ -204,6 +204,7 @@ module _ (C : Combination) (m : SignMap) (f : List ℕ → C.Value)
 
 -- ---- the two theorems
 
+-- a map with a certificate is realized by no vectors
 pub certificate_excludes : (m : SignMap) (es : List Entry) → IsCertificate m es → (vs : List WholeVector)
     → Realizes vs m → ⊥
 certificate_excludes m es c vs r =

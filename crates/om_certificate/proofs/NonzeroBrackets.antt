@@ -23,6 +23,7 @@ use Rattle.om_certificate.specs.Refusals.{IsFirstOtherBracket}
 abbrev pub nonzero_below : SignMap → ℕ → List (List ℕ)
 nonzero_below m k = filter (λ b. is_nonzero (chi_of m b)) (take k (all_subsets m.elements 3))
 
+-- the nonzero brackets among the first k triples are all of them, if there are at most k triples
 pub below_all : (m : SignMap) (k : ℕ) → choose m.elements 3 ≤ k → nonzero_below m k ≡ nonzero_brackets m
 below_all m k l =
     ap (filter (λ b. is_nonzero (chi_of m b)))
@@ -41,6 +42,7 @@ more_nonzero m k b l e n = below_more m k l
     ∙ ap (λ t. nonzero_below m k ++ cond t (subset_at m.elements 3 k ∷ []) [])
     (ap (λ c. is_nonzero (chi_of m c)) (sym e) ∙ n) ∙ ap (λ c. nonzero_below m k ++ c ∷ []) (sym e)
 
+-- a further triple with the sign zero adds no nonzero bracket
 pub more_zero : (m : SignMap) (k : ℕ) (b : List ℕ) → k < choose m.elements 3 → b ≡ subset_at m.elements 3 k
     → is_nonzero (chi_of m b) ≡ false → nonzero_below m (k + 1) ≡ nonzero_below m k
 more_zero m k b l e z = below_more m k l
@@ -59,6 +61,7 @@ below_split m k =
     ∙ filter-append (λ b. is_nonzero (chi_of m b)) (take k (all_subsets m.elements 3))
     (drop k (all_subsets m.elements 3))
 
+-- the nonzero brackets among the first k triples are no more than all of them
 pub below_length : (m : SignMap) (k : ℕ) → length (nonzero_below m k) ≤ length (nonzero_brackets m)
 below_length m k = let e = ap length (below_split m k) ∙ length-append (nonzero_below m k) (rest_from m k) in
     omega (arith, e)
@@ -75,6 +78,7 @@ next_nonzero m k b l e n =
     there [] ys = refl
     there (x ∷ xs) ys = there xs ys
 
+-- a further triple whose sign isn't zero adds one to the number of nonzero brackets
 pub more_length : (m : SignMap) (k : ℕ) (b : List ℕ) → k < choose m.elements 3 → b ≡ subset_at m.elements 3 k
     → is_nonzero (chi_of m b) ≡ true → length (nonzero_below m (k + 1)) ≡ length (nonzero_below m k) + 1
 more_length m k b l e n = ap length (more_nonzero m k b l e n) ∙ length-append (nonzero_below m k) (b ∷ [])

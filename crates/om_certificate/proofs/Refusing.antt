@@ -151,6 +151,7 @@ one_of_weights m ws (weight_fails s a f) (weight_fails t b g) = elim (before_tot
   | inr (inr l) ↦ absurd (g.unmet (f.earlier t g.lawful l))
 ]
 
+-- evidence is refused for one reason at most
 pub one_reason : (m : SignMap) (evidence : Evidence) (why other : CertRefused) → IsRefusal m evidence why
     → IsRefusal m evidence other → why ≡ other
 one_reason m evidence why other (not_rank_3 n) (not_rank_3 k) = refl
@@ -183,6 +184,7 @@ none_of_weights m ws why (number_of_weights n) v = n (sym (length-map ws bracket
 none_of_weights m ws why (bracket k e f) v = no_other m ws k f v.brackets
 none_of_weights m ws why (weight_fails s a f) v = f.unmet (v.met s f.lawful)
 
+-- valid evidence is refused for no reason
 pub no_reason : (m : SignMap) (evidence : Evidence) (why : CertRefused) → IsRefusal m evidence why → IsValid m evidence
     → ⊥
 no_reason m evidence why (not_rank_3 n) v = n (rank_of_valid m evidence v)
@@ -214,6 +216,7 @@ lifted : (m : SignMap) (evidence : Evidence) (r : Result (Unit {0}) CertRefused)
 lifted m evidence (Ok u) q f = f
 lifted m evidence (Err why) q f = of_rank_3 why q f
 
+-- valid evidence shows what evidence of its kind should
 pub valid_shows : (m : SignMap) (evidence : Evidence) → IsValid m evidence → Shows m evidence
 valid_shows m (Vectors vs) v = v
 valid_shows m (Balanced es) v = certificate_excludes m es v

@@ -135,6 +135,7 @@ pub side_sums : (strict b : Bool) (x y u v : ℤ) → x ≡ u → y ≡ v → Is
 side_sums strict b x y u v e f h =
     subst (λ z. IsTrue b ↔ Compares strict u z) f (subst (λ z. IsTrue b ↔ Compares strict z y) e h)
 
+-- on fewer than 256 elements fewer places are left at the next lawful statement, or at the end: so the walk ends
 pub nearer_following : (m : SignMap) (s : Statement) (r : Option Statement) → m.elements < 256 → IsLawful m s
     → IfSome r (λ t. IsNext m s t) → left r < left (Some s)
 nearer_following m s None few h n = at_end m s few h
