@@ -201,6 +201,7 @@ four_brackets m st h =
       big = f.j_j;
     }
 
+-- the brackets of both sides of a lawful statement are nonzero
 pub nonzero_sides : (m : SignMap) (st : Statement) → IsLawful m st → HasNonzeroBrackets m st st.small
     × HasNonzeroBrackets m st st.big
 nonzero_sides m st h =

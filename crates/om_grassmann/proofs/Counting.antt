@@ -42,6 +42,7 @@ following_next m low s r l e hs h = IfSome_then r h (λ t f. next_from m low s t
 
 -- ---- lists of statements
 
+-- an increasing list of statements stays so with one at its end that comes after all of them
 pub increasing_push : (xs : List Statement) (t : Statement) → IsIncreasing xs
     → ((u : Statement) → Contains xs u → IsBefore u t) → IsIncreasing (xs ++ t ∷ [])
 increasing_push [] t h before = tt
@@ -49,10 +50,12 @@ increasing_push (x ∷ []) t h before = (before x (contains_first x []), tt)
 increasing_push (x ∷ y ∷ ys) t h before =
     (h.0, increasing_push (y ∷ ys) t h.1 (λ u c. before u (contains_later x (y ∷ ys) u c)))
 
+-- an increasing list of statements is increasing without its first one too
 pub increasing_tail : (x : Statement) (xs : List Statement) → IsIncreasing (x ∷ xs) → IsIncreasing xs
 increasing_tail x [] h = tt
 increasing_tail x (y ∷ ys) h = h.1
 
+-- the first of an increasing list of statements comes before each of the others
 pub head_before : (x : Statement) (xs : List Statement) (u : Statement) → IsIncreasing (x ∷ xs) → Contains xs u
     → IsBefore x u
 head_before x [] u h c = absurd (none_contained u c)

@@ -52,9 +52,11 @@ lists_then (x ∷ xs) (y ∷ ys) (z ∷ zs) (inr (p, b)) (inr (q, d)) = inr (p �
 
 -- ---- statements
 
+-- no statement comes before itself
 pub before_self : (s : Statement) → IsBefore s s → ⊥
 before_self s b = lists_self (numbers s) b
 
+-- the order of statements is transitive
 pub before_then : (s t u : Statement) → IsBefore s t → IsBefore t u → IsBefore s u
 before_then s t u b d = lists_then (numbers s) (numbers t) (numbers u) b d
 
@@ -102,6 +104,7 @@ same_statement m s t hs ht n =
     (same_kind s.strict t.strict (term m s s.small) (term m s (third s.small s.big)) hs.signs.nonzero hs.signs.rest
     rest))
 
+-- of two lawful statements one comes before the other, or they are equal
 pub before_total : (m : SignMap) (s t : Statement) → IsLawful m s → IsLawful m t → IsBefore s t
     ⊎ ((s ≡ t) ⊎ IsBefore t s)
 before_total m s t hs ht = elim (lists_total (numbers s) (numbers t) refl) [

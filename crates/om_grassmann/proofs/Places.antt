@@ -73,6 +73,7 @@ pub lawful_places : (m : SignMap) (s t : Statement) → m.elements < 256 → IsL
     → place s < place t
 lawful_places m s t l hs ht b = before-place m.elements s t l hs.placed ht.placed hs.two ht.two b
 
+-- of two lawful statements on fewer than 256 elements the one with the smaller place comes before
 pub places_before : (m : SignMap) (s t : Statement) → m.elements < 256 → IsLawful m s → IsLawful m t → place s < place t
     → IsBefore s t
 places_before m s t l hs ht p = elim (before_total m s t hs ht) [
