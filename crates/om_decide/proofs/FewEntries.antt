@@ -69,6 +69,7 @@ few_counts columns m pivots counts low (balanced k s factor cs r b o f g t a) =
     in_basis s e i j h = let l = h.row.low in let u = h.row.high in
         subst (Contains s.basis) h.number (Contains-get_or s.basis (i - 1) 0 (omega arith))
 
+-- the certificate of a verdict has no more entries than there are rows
 pub few_entries : (m : SignMap) (b : Budgets) (es : List Entry) → IsVerdictOf m b (Nonrealizable es)
     → length es ≤ row_count m
 few_entries m b es (nonrealizable counts h) =

@@ -171,6 +171,7 @@ module _ (m : SignMap) (small : m.elements ≤ MAX_ELEMENTS) (b : Budgets) (budg
       let high = budgets.pivots_high in
       record { pivot_most = omega arith; row_most = omega arith; place_most = omega arith }
 
+  -- each part of a verdict has its form, if the map and the budgets are within the limits
   pub verdict_form : (v : Verdict) → IsVerdictOf m b v → IsVerdictInForm v
   verdict_form v (realizable vs f) = vectors_form vs f
   verdict_form v (nonrealizable counts h) = entries_form m small b counts h

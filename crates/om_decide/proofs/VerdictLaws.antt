@@ -99,6 +99,7 @@ module _ (m : SignMap) (b : Budgets) where
   apart : (o p : Outcome) → (o ≡ p → ⊥) → IsEndOf m b.pivots o → IsEndOf m b.pivots p → ⊥
   apart o p n h g = n (ends o p h g)
 
+  -- there is one verdict on a map at most, within the same budgets
   pub one_verdict : (v w : Verdict) → IsVerdictOf m b v → IsVerdictOf m b w → v ≡ w
   one_verdict v w (realizable vs f) (realizable us g) = ap Realizable (found_unique b.box_size m b.steps vs us f g)
   one_verdict v w (realizable vs f) (nonrealizable cs g) = absurd (never_both m b.box_size b.steps b.pivots vs cs f g)
