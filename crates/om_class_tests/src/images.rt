@@ -6,6 +6,7 @@ use om_chirotope::Chirotope;
 use om_samples::{SampleError, chirotope_of, is_map};
 use om_symmetry::{SignedElement, SignedPermutation};
 use std::alloc::Global;
+use std::process::Abort;
 
 /// An element as it is.
 pub const fn plain(element: u8) -> SignedElement {
@@ -42,43 +43,74 @@ fn has_image(alloc: Global, w: &SignedPermutation, chi: &Chirotope, text: &str) 
     }
 }
 
-/// Whether the signed permutation 2, the negative of 1, and 3 has the inverse, the products, the lift and the image of
-/// the chirotope of three vectors in turn that were worked out by hand.
-fn turned(alloc: Global, found: Result<Chirotope, SampleError>) -> bool
+/// Asserts that the signed permutation 2, the negative of 1, and 3 has the inverse, the products, the lift and the
+/// image of the chirotope of three vectors in turn that were worked out by hand.
+fn turned<R: Abort>(rt: &R, alloc: Global, found: Result<Chirotope, SampleError>)
     requires { IfOk found (λ c. c.elements ≡ 3) }
 {
-    let Ok(chi) = found else {
-        return false;
-    };
-    let Some(w) = SignedPermutation::from_entries(&[plain(2), negative(1), plain(3)]) else {
-        return false;
-    };
+    let chi = found.expect(rt, "a chirotope");
+    let w = SignedPermutation::from_entries(&[plain(2), negative(1), plain(3)]).expect(
+        rt,
+        "a signed permutation",
+    );
     let back = w.inverse();
-    let checks = [
-        has_entries(&back, &[negative(2), plain(1), plain(3)]),
-        has_entries(&w.then(&w), &[negative(1), negative(2), plain(3)]),
-        has_entries(&w.then(&back), &[plain(1), plain(2), plain(3)]),
-        has_entries(&w.lift(), &[plain(2), negative(1), plain(3), plain(4)]),
-        has_image(alloc, &w, &chi, "++-"),
-        has_image(alloc, &SignedPermutation::identity(3), &chi, "+++"),
-    ];
-    checks == [true; 6]
+    for (case, holds) in [
+        (
+            "inverse",
+            has_entries(&back, &[negative(2), plain(1), plain(3)]),
+        ),
+        (
+            "square",
+            has_entries(&w.then(&w), &[negative(1), negative(2), plain(3)]),
+        ),
+        (
+            "there and back",
+            has_entries(&w.then(&back), &[plain(1), plain(2), plain(3)]),
+        ),
+        (
+            "lift",
+            has_entries(&w.lift(), &[plain(2), negative(1), plain(3), plain(4)]),
+        ),
+        ("image", has_image(alloc, &w, &chi, "++-")),
+        (
+            "image by the identity",
+            has_image(alloc, &SignedPermutation::identity(3), &chi, "+++"),
+        ),
+    ] {
+        assert!(rt; holds, "{case}");
+    }
 }
 
 #[test]
 fn of_three_vectors(rt: HostRuntime) {
     let alloc = rt.alloc();
-    assert!(rt; turned(alloc, chirotope_of(&rt, alloc, 2, 3, "+++")));
+    turned(&rt, alloc, chirotope_of(&rt, alloc, 2, 3, "+++"));
 }
 
 #[test]
 fn refused_entries(rt: HostRuntime) {
-    let refused = [
-        SignedPermutation::from_entries(&[plain(1), negative(1)]).is_none(),
-        SignedPermutation::from_entries(&[plain(0)]).is_none(),
-        SignedPermutation::from_entries(&[plain(1), plain(3)]).is_none(),
-        SignedPermutation::from_entries(&[plain(1); 22]).is_none(),
-        SignedPermutation::from_entries(&[]).is_some(),
-    ];
-    assert!(rt; refused == [true; 5]);
+    for (case, holds) in [
+        (
+            "an element twice",
+            SignedPermutation::from_entries(&[plain(1), negative(1)]).is_none(),
+        ),
+        (
+            "element 0",
+            SignedPermutation::from_entries(&[plain(0)]).is_none(),
+        ),
+        (
+            "an element left out",
+            SignedPermutation::from_entries(&[plain(1), plain(3)]).is_none(),
+        ),
+        (
+            "22 elements",
+            SignedPermutation::from_entries(&[plain(1); 22]).is_none(),
+        ),
+        (
+            "no elements",
+            SignedPermutation::from_entries(&[]).is_some(),
+        ),
+    ] {
+        assert!(rt; holds, "{case}");
+    }
 }

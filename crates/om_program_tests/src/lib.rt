@@ -1,6 +1,6 @@
 //! The tests of the program: of the libraries that read and write its texts, of whole runs over sources and sinks in
-//! memory, and of the adapters over std's readers and writers. Beside them stand the public names of the library, by the
-//! paths under which callers know them.
+//! memory, and of the adapters over std's readers and writers. Beside them stand the public names of the library, by
+//! the paths under which callers know them.
 #![tactic(auto)]
 
 #[cfg(test)]

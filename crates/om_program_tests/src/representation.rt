@@ -45,25 +45,44 @@ fn gives<R: Threads + Sync>(rt: &R, alloc: Global, text: &[u8], rank: u8, signs:
 #[test]
 fn each_kind(rt: HostRuntime) {
     let alloc = rt.alloc();
-    let found = [
-        gives(&rt, alloc, b"om 1\nchirotope 3 3\n-\nend\n", 3, "-"),
-        gives(&rt, alloc, b"om 1\ncircuits 3\nend\n", 3, "+"),
-        gives(&rt, alloc, b"om 1\ncocircuits 3\n++-\n--+\nend\n", 1, "++-"),
-        gives(
-            &rt,
-            alloc,
-            b"om 1\ncovectors 3\n000\n++-\n--+\nend\n",
-            1,
-            "++-",
+    for (case, holds) in [
+        (
+            "chirotope",
+            gives(&rt, alloc, b"om 1\nchirotope 3 3\n-\nend\n", 3, "-"),
         ),
-        gives(&rt, alloc, b"om 1\nwiring 3\n2-3 1-2 2-3\nend\n", 3, "-"),
-        gives(
-            &rt,
-            alloc,
-            b"om 1\npoints 3\n0 1 0\n1 0 0\n0 0 1\nend\n",
-            3,
-            "-",
+        (
+            "circuits",
+            gives(&rt, alloc, b"om 1\ncircuits 3\nend\n", 3, "+"),
         ),
-    ];
-    assert!(rt; found == [true; 6]);
+        (
+            "cocircuits",
+            gives(&rt, alloc, b"om 1\ncocircuits 3\n++-\n--+\nend\n", 1, "++-"),
+        ),
+        (
+            "covectors",
+            gives(
+                &rt,
+                alloc,
+                b"om 1\ncovectors 3\n000\n++-\n--+\nend\n",
+                1,
+                "++-",
+            ),
+        ),
+        (
+            "wiring",
+            gives(&rt, alloc, b"om 1\nwiring 3\n2-3 1-2 2-3\nend\n", 3, "-"),
+        ),
+        (
+            "points",
+            gives(
+                &rt,
+                alloc,
+                b"om 1\npoints 3\n0 1 0\n1 0 0\n0 0 1\nend\n",
+                3,
+                "-",
+            ),
+        ),
+    ] {
+        assert!(rt; holds, "{case}");
+    }
 }

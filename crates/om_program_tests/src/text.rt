@@ -121,7 +121,7 @@ fn is_read(alloc: Global, bytes: &[u8], form: &str, len: usize, lines: u32) -> b
     match parse_part(alloc, bytes) {
         Ok((document, found, count)) => {
             let made = is_made(print(alloc, &document), form.as_bytes());
-            [found == len, count == lines, made] == [true; 3]
+            (found, count, made) == (len, lines, true)
         }
         Err(_) => false,
     }
@@ -131,7 +131,10 @@ fn is_read(alloc: Global, bytes: &[u8], form: &str, len: usize, lines: u32) -> b
 fn canonical_forms(rt: HostRuntime) {
     for (text, form, len, lines) in &FORMS {
         let bytes = text.as_bytes();
-        assert!(rt; bytes.len() <= MAX_INPUT && is_read(rt.alloc(), bytes, form, *len, *lines));
+        assert!(rt;
+            bytes.len() <= MAX_INPUT && is_read(rt.alloc(), bytes, form, *len, *lines),
+            "{text:?}"
+        );
     }
 }
 
@@ -195,12 +198,13 @@ fn has_words(text: &[u8], first: &[u8], second: &[u8]) -> bool {
 #[test]
 fn lines_and_words(rt: HostRuntime) {
     let (line, rest) = first_line(b"a bc#d\nend");
-    let found = [
-        same(line, b"a bc#d"),
-        same(rest, b"end"),
-        same(before_comment(line), b"a bc"),
-        has_words(b"\ta bc\r", b"a", b"bc"),
-        has_no_words(b" \t\r"),
-    ];
-    assert!(rt; found == [true; 5]);
+    for (case, holds) in [
+        ("the first line", same(line, b"a bc#d")),
+        ("the rest", same(rest, b"end")),
+        ("before the comment", same(before_comment(line), b"a bc")),
+        ("the words", has_words(b"\ta bc\r", b"a", b"bc")),
+        ("a line without words", has_no_words(b" \t\r")),
+    ] {
+        assert!(rt; holds, "{case}");
+    }
 }

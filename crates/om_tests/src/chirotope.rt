@@ -59,11 +59,15 @@ fn has_negative(found: Result<Chirotope, SampleError>, text: &str, normal: &str)
 #[test]
 fn values_and_negatives(rt: HostRuntime) {
     let alloc = rt.alloc();
-    let found = [
-        has_values(chirotope_of(&rt, alloc, 2, 3, "+-+")),
-        has_negative(chirotope_of(&rt, alloc, 2, 3, "+-+"), "-+-", "+-+"),
-    ];
-    assert!(rt; found == [true; 2]);
+    for (case, holds) in [
+        ("values", has_values(chirotope_of(&rt, alloc, 2, 3, "+-+"))),
+        (
+            "negatives",
+            has_negative(chirotope_of(&rt, alloc, 2, 3, "+-+"), "-+-", "+-+"),
+        ),
+    ] {
+        assert!(rt; holds, "{case}");
+    }
 }
 
 /// Whether a map was accepted, or refused for a reason.
@@ -101,12 +105,19 @@ fn checks(rt: HostRuntime) {
         s: Subset::from_mask(0b1111, 6),
         a: Subset::from_mask(0b110000, 6),
     };
-    let found = [
-        is_checked(&rt, alloc, 3, 4, "++++", None),
-        is_checked(&rt, alloc, 3, 4, "0000", Some(MapRefused::AllZero)),
-        is_checked(&rt, alloc, 3, 6, "+000000000000000000+", Some(why)),
-    ];
-    assert!(rt; found == [true; 3]);
+    for (case, holds) in [
+        ("accepted", is_checked(&rt, alloc, 3, 4, "++++", None)),
+        (
+            "all zero",
+            is_checked(&rt, alloc, 3, 4, "0000", Some(MapRefused::AllZero)),
+        ),
+        (
+            "a relation",
+            is_checked(&rt, alloc, 3, 6, "+000000000000000000+", Some(why)),
+        ),
+    ] {
+        assert!(rt; holds, "{case}");
+    }
 }
 
 /// Whether the text spells a map, and its bases have the exchange property or not.
@@ -126,10 +137,17 @@ fn is_exchange(alloc: Global, rank: u8, elements: u8, text: &str, expected: bool
 #[test]
 fn exchanges(rt: HostRuntime) {
     let alloc = rt.alloc();
-    let found = [
-        is_exchange(alloc, 3, 6, "+000000000000000000+", false),
-        is_exchange(alloc, 3, 6, "+++++-++++++++++++++", true),
-        is_exchange(alloc, 3, 3, "0", true),
-    ];
-    assert!(rt; found == [true; 3]);
+    for (case, holds) in [
+        (
+            "123 and 456",
+            is_exchange(alloc, 3, 6, "+000000000000000000+", false),
+        ),
+        (
+            "each set of three",
+            is_exchange(alloc, 3, 6, "+++++-++++++++++++++", true),
+        ),
+        ("no basis", is_exchange(alloc, 3, 3, "0", true)),
+    ] {
+        assert!(rt; holds, "{case}");
+    }
 }

@@ -14,6 +14,7 @@ use om_covectors::{CovRefused, Covectors};
 use om_samples::{SampleError, chirotope_of, circuits_of, cocircuits_of, covectors_of, vectors_of};
 use om_signs::List;
 use std::alloc::{AllocError, Global};
+use std::process::Abort;
 use std::thread::Threads;
 
 const SIGNS: &str = "0+0+00";
@@ -35,54 +36,93 @@ const COVECTOR_LIST: [&str; 9] = [
     "0000", "++00", "--00", "00+0", "00-0", "+++0", "++-0", "--+0", "---0",
 ];
 
-/// Whether there is a chirotope, and its circuits, cocircuits and covectors are those written above.
-fn of_chirotope(alloc: Global, found: Result<Chirotope, SampleError>) -> bool {
-    match found {
-        Ok(chi) => [
+/// Asserts that there is a chirotope, and that its circuits, cocircuits and covectors are those written above.
+fn of_chirotope<R: Abort>(rt: &R, alloc: Global, found: Result<Chirotope, SampleError>) {
+    let chi = found.expect(rt, "a chirotope");
+    for (of, holds) in [
+        (
+            "circuits",
             are_circuits(chirotope_to_circuits(alloc, &chi), CIRCUITS),
+        ),
+        (
+            "cocircuits",
             are_cocircuits(chirotope_to_cocircuits(alloc, &chi), COCIRCUITS),
+        ),
+        (
+            "covectors",
             are_covectors(chirotope_to_covectors(alloc, &chi), COVECTORS),
-        ] == [true; 3],
-        Err(_) => false,
+        ),
+    ] {
+        assert!(rt; holds, "{of} of a chirotope");
     }
 }
 
-/// Whether there are circuits of rank 2, and their chirotope, cocircuits and covectors are those written above.
-fn of_circuits(alloc: Global, found: Result<Circuits, SampleError>) -> bool {
-    match found {
-        Ok(circuits) => [
-            rank_circuits(&circuits) == 2,
+/// Asserts that there are circuits of rank 2, and that their chirotope, cocircuits and covectors are those written
+/// above.
+fn of_circuits<R: Abort>(rt: &R, alloc: Global, found: Result<Circuits, SampleError>) {
+    let circuits = found.expect(rt, "circuits");
+    for (of, holds) in [
+        ("rank", rank_circuits(&circuits) == 2),
+        (
+            "chirotope",
             is_chirotope(circuits_to_chirotope(alloc, &circuits), 2, 4, SIGNS),
+        ),
+        (
+            "cocircuits",
             are_cocircuits(circuits_to_cocircuits(alloc, &circuits), COCIRCUITS),
+        ),
+        (
+            "covectors",
             are_covectors(circuits_to_covectors(alloc, &circuits), COVECTORS),
-        ] == [true; 4],
-        Err(_) => false,
+        ),
+    ] {
+        assert!(rt; holds, "{of} of circuits");
     }
 }
 
-/// Whether there are cocircuits of rank 2, and their chirotope, circuits and covectors are those written above.
-fn of_cocircuits(alloc: Global, found: Result<Cocircuits, SampleError>) -> bool {
-    match found {
-        Ok(cocircuits) => [
-            rank_cocircuits(&cocircuits) == 2,
+/// Asserts that there are cocircuits of rank 2, and that their chirotope, circuits and covectors are those written
+/// above.
+fn of_cocircuits<R: Abort>(rt: &R, alloc: Global, found: Result<Cocircuits, SampleError>) {
+    let cocircuits = found.expect(rt, "cocircuits");
+    for (of, holds) in [
+        ("rank", rank_cocircuits(&cocircuits) == 2),
+        (
+            "chirotope",
             is_chirotope(cocircuits_to_chirotope(alloc, &cocircuits), 2, 4, SIGNS),
+        ),
+        (
+            "circuits",
             are_circuits(cocircuits_to_circuits(alloc, &cocircuits), CIRCUITS),
+        ),
+        (
+            "covectors",
             are_covectors(cocircuits_to_covectors(alloc, &cocircuits), COVECTORS),
-        ] == [true; 4],
-        Err(_) => false,
+        ),
+    ] {
+        assert!(rt; holds, "{of} of cocircuits");
     }
 }
 
-/// Whether there are covectors of rank 2, and their chirotope, circuits and cocircuits are those written above.
-fn of_covectors(alloc: Global, found: Result<Covectors, SampleError>) -> bool {
-    match found {
-        Ok(covectors) => [
-            rank_covectors(&covectors) == 2,
+/// Asserts that there are covectors of rank 2, and that their chirotope, circuits and cocircuits are those written
+/// above.
+fn of_covectors<R: Abort>(rt: &R, alloc: Global, found: Result<Covectors, SampleError>) {
+    let covectors = found.expect(rt, "covectors");
+    for (of, holds) in [
+        ("rank", rank_covectors(&covectors) == 2),
+        (
+            "chirotope",
             is_chirotope(covectors_to_chirotope(alloc, &covectors), 2, 4, SIGNS),
+        ),
+        (
+            "circuits",
             are_circuits(covectors_to_circuits(alloc, &covectors), CIRCUITS),
+        ),
+        (
+            "cocircuits",
             are_cocircuits(covectors_to_cocircuits(alloc, &covectors), COCIRCUITS),
-        ] == [true; 4],
-        Err(_) => false,
+        ),
+    ] {
+        assert!(rt; holds, "{of} of covectors");
     }
 }
 
@@ -90,13 +130,10 @@ fn of_covectors(alloc: Global, found: Result<Covectors, SampleError>) -> bool {
 #[test]
 fn each_of_each_other(rt: HostRuntime) {
     let alloc = rt.alloc();
-    let found = [
-        of_chirotope(alloc, chirotope_of(&rt, alloc, 2, 4, SIGNS)),
-        of_circuits(alloc, circuits_of(&rt, alloc, 4, &CIRCUIT_LIST)),
-        of_cocircuits(alloc, cocircuits_of(&rt, alloc, 4, &COCIRCUIT_LIST)),
-        of_covectors(alloc, covectors_of(&rt, alloc, 4, &COVECTOR_LIST)),
-    ];
-    assert!(rt; found == [true; 4]);
+    of_chirotope(&rt, alloc, chirotope_of(&rt, alloc, 2, 4, SIGNS));
+    of_circuits(&rt, alloc, circuits_of(&rt, alloc, 4, &CIRCUIT_LIST));
+    of_cocircuits(&rt, alloc, cocircuits_of(&rt, alloc, 4, &COCIRCUIT_LIST));
+    of_covectors(&rt, alloc, covectors_of(&rt, alloc, 4, &COVECTOR_LIST));
 }
 
 /// Whether a text was made, and is this one.
@@ -189,16 +226,35 @@ fn covectors_read<R: Threads + Sync>(
 #[test]
 fn lists_are_read(rt: HostRuntime) {
     let alloc = rt.alloc();
-    let found = [
-        are_circuits(circuits_read(&rt, alloc, 3, &["++0", "--0"]), "++0 --0"),
-        lacks_a_negative(circuits_read(&rt, alloc, 2, &["+-"])),
-        are_cocircuits(cocircuits_read(&rt, alloc, 3, &["++0", "--0"]), "++0 --0"),
-        lacks_a_negative(cocircuits_read(&rt, alloc, 2, &["+-"])),
-        are_covectors(
-            covectors_read(&rt, alloc, 2, &["00", "++", "--"]),
-            "00 ++ --",
+    for (case, holds) in [
+        (
+            "circuits",
+            are_circuits(circuits_read(&rt, alloc, 3, &["++0", "--0"]), "++0 --0"),
         ),
-        lacks_zero(covectors_read(&rt, alloc, 1, &["+", "-"])),
-    ];
-    assert!(rt; found == [true; 6]);
+        (
+            "circuits without a negative",
+            lacks_a_negative(circuits_read(&rt, alloc, 2, &["+-"])),
+        ),
+        (
+            "cocircuits",
+            are_cocircuits(cocircuits_read(&rt, alloc, 3, &["++0", "--0"]), "++0 --0"),
+        ),
+        (
+            "cocircuits without a negative",
+            lacks_a_negative(cocircuits_read(&rt, alloc, 2, &["+-"])),
+        ),
+        (
+            "covectors",
+            are_covectors(
+                covectors_read(&rt, alloc, 2, &["00", "++", "--"]),
+                "00 ++ --",
+            ),
+        ),
+        (
+            "covectors without zero",
+            lacks_zero(covectors_read(&rt, alloc, 1, &["+", "-"])),
+        ),
+    ] {
+        assert!(rt; holds, "{case}");
+    }
 }

@@ -8,6 +8,7 @@ use om_covectors::{BadCov, CovRefused, Covectors, check, minimal_vectors};
 use om_samples::{SampleError, covectors_of, vector_of, vectors_of};
 use om_signs::{List, SignVec};
 use std::alloc::Global;
+use std::process::Abort;
 use std::thread::Threads;
 
 /// The covectors of three vectors in the plane, each two of them in the same orientation: the signs of a, a + b and
@@ -38,24 +39,21 @@ fn is_refused<R: Threads + Sync>(
     }
 }
 
-/// Whether there are this many covectors of three elements, `+0-` is among them and `+0+` isn't, and their members
-/// of minimal support are those of a text.
-fn are_seen(found: Result<Covectors, SampleError>, size: usize, text: &str) -> bool
+/// Asserts that there are this many covectors of three elements, that `+0-` is among them and `+0+` isn't, and that
+/// their members of minimal support are those of a text.
+fn are_seen<R: Abort>(rt: &R, found: Result<Covectors, SampleError>, size: usize, text: &str)
     requires { IfOk found (λ c. c.elements ≡ 3) }
 {
-    match found {
-        Ok(covectors) => {
-            let answers = [
-                covectors.elements() == 3,
-                covectors.members().len() == size,
-                covectors.contains(vector_of(3, "+0-")),
-                !covectors.contains(vector_of(3, "+0+")),
-                are_found(covectors.minimal(), text),
-                covectors.into_list().len() == size,
-            ];
-            answers == [true; 6]
-        }
-        Err(_) => false,
+    let covectors = found.expect(rt, "covectors");
+    for (case, holds) in [
+        ("elements", covectors.elements() == 3),
+        ("size", covectors.members().len() == size),
+        ("+0-", covectors.contains(vector_of(3, "+0-"))),
+        ("+0+", !covectors.contains(vector_of(3, "+0+"))),
+        ("minimal ones", are_found(covectors.minimal(), text)),
+        ("size of the list", covectors.into_list().len() == size),
+    ] {
+        assert!(rt; holds, "{case}");
     }
 }
 
@@ -70,19 +68,14 @@ fn are_minimal(alloc: Global, vectors: Result<List<SignVec>, SampleError>, text:
 #[test]
 fn accepted_and_minimal(rt: HostRuntime) {
     let alloc = rt.alloc();
-    let found = [
-        are_seen(
-            covectors_of(&rt, alloc, 3, &PLANE),
-            13,
-            "0++ 0-- +0- -0+ ++0 --0",
-        ),
-        are_minimal(
-            alloc,
-            vectors_of(alloc, 3, &["++0", "000", "-00", "0-+", "+00", "-++"]),
-            "-00 0-+ +00",
-        ),
-    ];
-    assert!(rt; found == [true; 2]);
+    are_seen(
+        &rt,
+        covectors_of(&rt, alloc, 3, &PLANE),
+        13,
+        "0++ 0-- +0- -0+ ++0 --0",
+    );
+    let vectors = vectors_of(alloc, 3, &["++0", "000", "-00", "0-+", "+00", "-++"]);
+    assert!(rt; are_minimal(alloc, vectors, "-00 0-+ +00"));
 }
 
 // without zero, without a negative, without a composition and without elimination
@@ -91,23 +84,36 @@ fn refused(rt: HostRuntime) {
     let alloc = rt.alloc();
     let no_composition = CovRefused::NoComposition { i: 2, j: 4 };
     let no_elimination = CovRefused::NoElimination { i: 2, j: 4, e: 2 };
-    let found = [
-        is_refused(&rt, alloc, 1, &["+", "-"], CovRefused::NoZero),
-        is_refused(&rt, alloc, 1, &["0", "+"], CovRefused::NoNegative { i: 2 }),
-        is_refused(
-            &rt,
-            alloc,
-            2,
-            &["00", "+0", "-0", "0+", "0-"],
-            no_composition,
+    for (case, holds) in [
+        (
+            "no zero",
+            is_refused(&rt, alloc, 1, &["+", "-"], CovRefused::NoZero),
         ),
-        is_refused(
-            &rt,
-            alloc,
-            2,
-            &["00", "++", "--", "+-", "-+"],
-            no_elimination,
+        (
+            "no negative",
+            is_refused(&rt, alloc, 1, &["0", "+"], CovRefused::NoNegative { i: 2 }),
         ),
-    ];
-    assert!(rt; found == [true; 4]);
+        (
+            "no composition",
+            is_refused(
+                &rt,
+                alloc,
+                2,
+                &["00", "+0", "-0", "0+", "0-"],
+                no_composition,
+            ),
+        ),
+        (
+            "no elimination",
+            is_refused(
+                &rt,
+                alloc,
+                2,
+                &["00", "++", "--", "+-", "-+"],
+                no_elimination,
+            ),
+        ),
+    ] {
+        assert!(rt; holds, "{case}");
+    }
 }

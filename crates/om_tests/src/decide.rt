@@ -68,43 +68,62 @@ fn verdicts(rt: HostRuntime) {
     let (rank_2, four) = ("+++", "++++");
     let five = "++++++++++";
     let most = 1_000_000;
-    let found = [
-        is_decided(
-            alloc,
-            chirotope_of(&rt, alloc, 2, 3, rank_2),
-            budgets(1, 1),
-            (0, 2),
+    for (case, holds) in [
+        (
+            "rank 2",
+            is_decided(
+                alloc,
+                chirotope_of(&rt, alloc, 2, 3, rank_2),
+                budgets(1, 1),
+                (0, 2),
+            ),
         ),
-        is_decided(
-            alloc,
-            chirotope_of(&rt, alloc, 3, 4, four),
-            budgets(20, most),
-            (1, 4),
+        (
+            "four elements, found at the last step",
+            is_decided(
+                alloc,
+                chirotope_of(&rt, alloc, 3, 4, four),
+                budgets(20, most),
+                (1, 4),
+            ),
         ),
-        is_decided(
-            alloc,
-            chirotope_of(&rt, alloc, 3, 5, five),
-            budgets(52, most),
-            (3, 10),
+        (
+            "five elements, exhausted",
+            is_decided(
+                alloc,
+                chirotope_of(&rt, alloc, 3, 5, five),
+                budgets(52, most),
+                (3, 10),
+            ),
         ),
-        is_decided(
-            alloc,
-            chirotope_of(&rt, alloc, 3, 9, PAPPUS),
-            budgets(1, most),
-            (3, 75),
+        (
+            "Pappus, weights",
+            is_decided(
+                alloc,
+                chirotope_of(&rt, alloc, 3, 9, PAPPUS),
+                budgets(1, most),
+                (3, 75),
+            ),
         ),
-        is_decided(
-            alloc,
-            chirotope_of(&rt, alloc, 3, 9, NON_PAPPUS),
-            budgets(100_000, 136),
-            (2, 22),
+        (
+            "non-Pappus, a certificate",
+            is_decided(
+                alloc,
+                chirotope_of(&rt, alloc, 3, 9, NON_PAPPUS),
+                budgets(100_000, 136),
+                (2, 22),
+            ),
         ),
-        is_decided(
-            alloc,
-            chirotope_of(&rt, alloc, 3, 9, NON_PAPPUS),
-            budgets(1, 135),
-            (4, 77),
+        (
+            "non-Pappus, a pivot too few",
+            is_decided(
+                alloc,
+                chirotope_of(&rt, alloc, 3, 9, NON_PAPPUS),
+                budgets(1, 135),
+                (4, 77),
+            ),
         ),
-    ];
-    assert!(rt; found == [true; 6]);
+    ] {
+        assert!(rt; holds, "{case}");
+    }
 }

@@ -118,22 +118,35 @@ fn statements(rt: HostRuntime) {
     let alloc = rt.alloc();
     let five = "++++++++++";
     let equation = statement([1, 2, 3, 4, 7, 3, 2], false);
-    let found = [
+    for (case, holds) in [
         // in a rank other than 3 there are none
-        has_all(chirotope_of(&rt, alloc, 3, 5, five), &TEN),
-        has_all(chirotope_of(&rt, alloc, 2, 5, five), &[]),
+        (
+            "all of five elements",
+            has_all(chirotope_of(&rt, alloc, 3, 5, five), &TEN),
+        ),
+        (
+            "none of rank 2",
+            has_all(chirotope_of(&rt, alloc, 2, 5, five), &[]),
+        ),
         // each of 6 elements has two with each four of the other five; the last are those of 6 with 2, 3, 4 and 5
-        has_last(
-            chirotope_of(&rt, alloc, 3, 6, "++++++++++++++++++++"),
-            59,
-            [6, 2, 3, 4, 5, 3, 2],
+        (
+            "the last of six elements",
+            has_last(
+                chirotope_of(&rt, alloc, 3, 6, "++++++++++++++++++++"),
+                59,
+                [6, 2, 3, 4, 5, 3, 2],
+            ),
         ),
         // since 123 is collinear, 127 with 134 is equal to 124 with 137
-        has_sides(
-            chirotope_of(&rt, alloc, 3, 9, PAPPUS),
-            equation,
-            [0b1000011, 0b1101, 0b1011, 0b1000101],
+        (
+            "sides of an equation",
+            has_sides(
+                chirotope_of(&rt, alloc, 3, 9, PAPPUS),
+                equation,
+                [0b1000011, 0b1101, 0b1011, 0b1000101],
+            ),
         ),
-    ];
-    assert!(rt; found == [true; 4]);
+    ] {
+        assert!(rt; holds, "{case}");
+    }
 }

@@ -39,25 +39,32 @@ fn lists<R: Threads + Sync>(
 #[test]
 fn extensions_of_three(rt: HostRuntime) {
     let alloc = rt.alloc();
-    let found = [
-        lists(
-            &rt,
-            alloc,
-            chirotope_of(&rt, alloc, 3, 3, "+"),
-            27,
-            27,
-            false,
+    for (case, holds) in [
+        (
+            "all 27",
+            lists(
+                &rt,
+                alloc,
+                chirotope_of(&rt, alloc, 3, 3, "+"),
+                27,
+                27,
+                false,
+            ),
         ),
-        lists(
-            &rt,
-            alloc,
-            chirotope_of(&rt, alloc, 3, 3, "+"),
-            26,
-            26,
-            true,
+        (
+            "26, and a further one",
+            lists(
+                &rt,
+                alloc,
+                chirotope_of(&rt, alloc, 3, 3, "+"),
+                26,
+                26,
+                true,
+            ),
         ),
-    ];
-    assert!(rt; found == [true; 2]);
+    ] {
+        assert!(rt; holds, "{case}");
+    }
 }
 
 #[test]

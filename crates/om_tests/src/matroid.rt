@@ -72,12 +72,22 @@ const COLOOPS: Facts = (
 #[test]
 fn four_elements(rt: HostRuntime) {
     let alloc = rt.alloc();
-    let found = [
-        has_facts(chirotope_of(&rt, alloc, 2, 4, "0+0+00"), PARALLEL),
-        has_facts(chirotope_of(&rt, alloc, 0, 4, "+"), LOOPS),
-        has_facts(chirotope_of(&rt, alloc, 4, 4, "+"), COLOOPS),
-    ];
-    assert!(rt; found == [true; 3]);
+    for (case, holds) in [
+        (
+            "a loop, a coloop and a parallel pair",
+            has_facts(chirotope_of(&rt, alloc, 2, 4, "0+0+00"), PARALLEL),
+        ),
+        (
+            "four loops",
+            has_facts(chirotope_of(&rt, alloc, 0, 4, "+"), LOOPS),
+        ),
+        (
+            "four coloops",
+            has_facts(chirotope_of(&rt, alloc, 4, 4, "+"), COLOOPS),
+        ),
+    ] {
+        assert!(rt; holds, "{case}");
+    }
 }
 
 /// Whether a set is a basis.

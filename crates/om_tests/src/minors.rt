@@ -15,6 +15,7 @@ use om_samples::{
     SampleError, are_vectors, chirotope_of, circuits_of, cocircuits_of, covectors_of, is_map,
 };
 use std::alloc::Global;
+use std::process::Abort;
 
 const CIRCUITS: [&str; 4] = ["+-00", "-+00", "000+", "000-"];
 
@@ -24,20 +25,35 @@ const COVECTORS: [&str; 9] = [
     "0000", "++00", "--00", "00+0", "00-0", "+++0", "++-0", "--+0", "---0",
 ];
 
-/// Whether the deletions of 1 and 3, the contractions of 1 and 4 and the reorientation on 1 have the signs computed
-/// by hand. In the last the value of 13 becomes minus, and that of 23 is unchanged.
-fn of_chirotope(alloc: Global, found: Result<Chirotope, SampleError>) -> bool
+/// Asserts that the deletions of 1 and 3, the contractions of 1 and 4 and the reorientation on 1 have the signs
+/// computed by hand. In the last the value of 13 becomes minus, and that of 23 is unchanged.
+fn of_chirotope<R: Abort>(rt: &R, alloc: Global, found: Result<Chirotope, SampleError>)
     requires { IfOk found (λ c. c.elements ≡ 4) }
 {
-    match found {
-        Ok(chi) => [
+    let chi = found.expect(rt, "a chirotope");
+    for (case, holds) in [
+        (
+            "1 deleted",
             is_chirotope(delete_chirotope(alloc, &chi, 1), 2, 3, "+00"),
+        ),
+        (
+            "3 deleted",
             is_chirotope(delete_chirotope(alloc, &chi, 3), 1, 3, "++0"),
+        ),
+        (
+            "1 contracted",
             is_chirotope(contract_chirotope(alloc, &chi, 1), 1, 3, "0+0"),
+        ),
+        (
+            "4 contracted",
             is_chirotope(contract_chirotope(alloc, &chi, 4), 2, 3, "0++"),
+        ),
+        (
+            "1 reoriented",
             is_map(&reorient_chirotope(chi, 0b1).into_raw(), 2, 4, "0+0-00"),
-        ] == [true; 5],
-        Err(_) => false,
+        ),
+    ] {
+        assert!(rt; holds, "a chirotope, {case}");
     }
 }
 
@@ -57,71 +73,93 @@ fn is_last(alloc: Global, found: Result<Chirotope, SampleError>, why: MinorError
     }
 }
 
-/// Whether the deletion and the contraction of 1 and the reorientation on 1 and 4 have the circuits computed by
+/// Asserts that the deletion and the contraction of 1 and the reorientation on 1 and 4 have the circuits computed by
 /// hand.
-fn of_circuits(alloc: Global, found: Result<Circuits, SampleError>) -> bool
+fn of_circuits<R: Abort>(rt: &R, alloc: Global, found: Result<Circuits, SampleError>)
     requires { IfOk found (λ c. c.0.elements ≡ 4) }
 {
-    match found {
-        Ok(circuits) => [
+    let circuits = found.expect(rt, "circuits");
+    for (case, holds) in [
+        (
+            "1 deleted",
             are_circuits(delete_circuits(alloc, &circuits, 1), "00+ 00-"),
+        ),
+        (
+            "1 contracted",
             are_circuits(contract_circuits(alloc, &circuits, 1), "-00 +00 00+ 00-"),
+        ),
+        (
+            "1 and 4 reoriented",
             are_vectors(
                 reorient_circuits(circuits, 0b1001).0.members(),
                 "--00 ++00 000+ 000-",
             ),
-        ] == [true; 3],
-        Err(_) => false,
+        ),
+    ] {
+        assert!(rt; holds, "circuits, {case}");
     }
 }
 
-/// Whether the deletion and the contraction of 1 and the reorientation on 2 have the cocircuits computed by hand.
-fn of_cocircuits(alloc: Global, found: Result<Cocircuits, SampleError>) -> bool
+/// Asserts that the deletion and the contraction of 1 and the reorientation on 2 have the cocircuits computed by hand.
+fn of_cocircuits<R: Abort>(rt: &R, alloc: Global, found: Result<Cocircuits, SampleError>)
     requires { IfOk found (λ c. c.0.elements ≡ 4) }
 {
-    match found {
-        Ok(cocircuits) => [
+    let cocircuits = found.expect(rt, "cocircuits");
+    for (case, holds) in [
+        (
+            "1 deleted",
             are_cocircuits(delete_cocircuits(alloc, &cocircuits, 1), "+00 -00 0+0 0-0"),
+        ),
+        (
+            "1 contracted",
             are_cocircuits(contract_cocircuits(alloc, &cocircuits, 1), "0+0 0-0"),
+        ),
+        (
+            "2 reoriented",
             are_vectors(
                 reorient_cocircuits(cocircuits, 0b10).0.members(),
                 "+-00 -+00 00+0 00-0",
             ),
-        ] == [true; 3],
-        Err(_) => false,
+        ),
+    ] {
+        assert!(rt; holds, "cocircuits, {case}");
     }
 }
 
-/// Whether the minors and the reorientation on 2 and 3 have the covectors computed by hand, with the deletion of 3.
-fn of_covectors(alloc: Global, found: Result<Covectors, SampleError>) -> bool
+/// Asserts that the minors and the reorientation on 2 and 3 have the covectors computed by hand, with the deletion of
+/// 3.
+fn of_covectors<R: Abort>(rt: &R, alloc: Global, found: Result<Covectors, SampleError>)
     requires { IfOk found (λ c. c.elements ≡ 4) }
 {
-    match found {
-        Ok(covectors) => [
+    let covectors = found.expect(rt, "covectors");
+    for (case, holds) in [
+        (
+            "3 deleted",
             are_covectors(delete_covectors(alloc, &covectors, 3), "000 ++0 --0"),
+        ),
+        (
+            "1 contracted",
             are_covectors(contract_covectors(alloc, &covectors, 1), "000 0+0 0-0"),
+        ),
+        (
+            "2 and 3 reoriented",
             are_vectors(
                 reorient_covectors(covectors, 0b110).members(),
                 "0000 +-00 -+00 00+0 00-0 +-+0 +--0 -++0 -+-0",
             ),
-        ] == [true; 3],
-        Err(_) => false,
+        ),
+    ] {
+        assert!(rt; holds, "covectors, {case}");
     }
 }
 
 #[test]
 fn of_each_kind(rt: HostRuntime) {
     let alloc = rt.alloc();
-    let found = [
-        of_chirotope(alloc, chirotope_of(&rt, alloc, 2, 4, "0+0+00")),
-        is_last(
-            alloc,
-            chirotope_of(&rt, alloc, 1, 1, "+"),
-            MinorError::LastElement,
-        ),
-        of_circuits(alloc, circuits_of(&rt, alloc, 4, &CIRCUITS)),
-        of_cocircuits(alloc, cocircuits_of(&rt, alloc, 4, &COCIRCUITS)),
-        of_covectors(alloc, covectors_of(&rt, alloc, 4, &COVECTORS)),
-    ];
-    assert!(rt; found == [true; 5]);
+    of_chirotope(&rt, alloc, chirotope_of(&rt, alloc, 2, 4, "0+0+00"));
+    let one = chirotope_of(&rt, alloc, 1, 1, "+");
+    assert!(rt; is_last(alloc, one, MinorError::LastElement));
+    of_circuits(&rt, alloc, circuits_of(&rt, alloc, 4, &CIRCUITS));
+    of_cocircuits(&rt, alloc, cocircuits_of(&rt, alloc, 4, &COCIRCUITS));
+    of_covectors(&rt, alloc, covectors_of(&rt, alloc, 4, &COVECTORS));
 }

@@ -71,27 +71,43 @@ const TURNED: [Block; 6] = [SECOND, FIRST, SECOND, THIRD, SECOND, FIRST];
 fn chirotopes_and_triangles(rt: HostRuntime) {
     let alloc = rt.alloc();
     let refused = Some(FlipRefused::NotBasis);
-    let found = [
-        has_flip(chirotope_of(&rt, alloc, 3, 4, "++++"), None, "-+++"),
-        has_flip(chirotope_of(&rt, alloc, 3, 4, "0+++"), refused, "0+++"),
-        is_flipped(
-            sweep_of(alloc, chirotope_of(&rt, alloc, 3, 4, "++++")),
-            1,
-            true,
-            &TURNED,
+    for (case, holds) in [
+        (
+            "a flip of 123",
+            has_flip(chirotope_of(&rt, alloc, 3, 4, "++++"), None, "-+++"),
         ),
-        is_flipped(
-            sweep_of(alloc, chirotope_of(&rt, alloc, 3, 4, "++++")),
-            4,
-            false,
-            &KEPT,
+        (
+            "a triple that is no basis",
+            has_flip(chirotope_of(&rt, alloc, 3, 4, "0+++"), refused, "0+++"),
         ),
-        is_flipped(
-            sweep_of(alloc, chirotope_of(&rt, alloc, 3, 4, "++++")),
-            5,
-            false,
-            &KEPT,
+        (
+            "a triangle at step 1",
+            is_flipped(
+                sweep_of(alloc, chirotope_of(&rt, alloc, 3, 4, "++++")),
+                1,
+                true,
+                &TURNED,
+            ),
         ),
-    ];
-    assert!(rt; found == [true; 5]);
+        (
+            "no triangle at step 4",
+            is_flipped(
+                sweep_of(alloc, chirotope_of(&rt, alloc, 3, 4, "++++")),
+                4,
+                false,
+                &KEPT,
+            ),
+        ),
+        (
+            "too few steps behind step 5",
+            is_flipped(
+                sweep_of(alloc, chirotope_of(&rt, alloc, 3, 4, "++++")),
+                5,
+                false,
+                &KEPT,
+            ),
+        ),
+    ] {
+        assert!(rt; holds, "{case}");
+    }
 }

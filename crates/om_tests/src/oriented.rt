@@ -25,11 +25,18 @@ fn is_told_apart<M: Oriented + Drop>(found: Result<M, SampleError>) -> bool {
 #[test]
 fn covectors_of_each_kind(rt: HostRuntime) {
     let alloc = rt.alloc();
-    let found = [
-        is_told_apart(chirotope_of(&rt, alloc, 3, 4, "++++")),
-        is_told_apart(circuits_of(&rt, alloc, 4, &CIRCUITS)),
-    ];
-    assert!(rt; found == [true; 2]);
+    for (case, holds) in [
+        (
+            "chirotope",
+            is_told_apart(chirotope_of(&rt, alloc, 3, 4, "++++")),
+        ),
+        (
+            "circuits",
+            is_told_apart(circuits_of(&rt, alloc, 4, &CIRCUITS)),
+        ),
+    ] {
+        assert!(rt; holds, "{case}");
+    }
 }
 
 /// Whether there are two oriented matroids with the same number of elements, and they compare like this in both
@@ -59,36 +66,49 @@ fn compare<A: Oriented + Drop, B: Oriented + Drop>(
 #[test]
 fn sameness_and_first_difference(rt: HostRuntime) {
     let alloc = rt.alloc();
-    let found = [
+    for (case, holds) in [
         // the circuits are those of the first chirotope
-        compare(
-            chirotope_of(&rt, alloc, 3, 4, "++++"),
-            circuits_of(&rt, alloc, 4, &CIRCUITS),
-            Ok(()),
+        (
+            "the same",
+            compare(
+                chirotope_of(&rt, alloc, 3, 4, "++++"),
+                circuits_of(&rt, alloc, 4, &CIRCUITS),
+                Ok(()),
+            ),
         ),
         // the vectors `----`, `---0` and `---+` are orthogonal to the circuits of both, and `--0-` only to `-+-+`,
         // which is one of the second
-        compare(
-            chirotope_of(&rt, alloc, 3, 4, "+++-"),
-            circuits_of(&rt, alloc, 4, &CIRCUITS),
-            Err(Differ {
-                x: vector_of(4, "--0-"),
-            }),
+        (
+            "another sign",
+            compare(
+                chirotope_of(&rt, alloc, 3, 4, "+++-"),
+                circuits_of(&rt, alloc, 4, &CIRCUITS),
+                Err(Differ {
+                    x: vector_of(4, "--0-"),
+                }),
+            ),
         ),
         // of two elements that are both loops only `00` is a covector; of two elements that are no loops, each
         // vector is one
-        compare(
-            cocircuits_of(&rt, alloc, 2, &["-0", "0-", "0+", "+0"]),
-            covectors_of(&rt, alloc, 2, &["00"]),
-            Err(Differ {
-                x: vector_of(2, "--"),
-            }),
+        (
+            "loops and no loops",
+            compare(
+                cocircuits_of(&rt, alloc, 2, &["-0", "0-", "0+", "+0"]),
+                covectors_of(&rt, alloc, 2, &["00"]),
+                Err(Differ {
+                    x: vector_of(2, "--"),
+                }),
+            ),
         ),
-        compare(
-            covectors_of(&rt, alloc, 2, &["00"]),
-            covectors_of(&rt, alloc, 2, &["00"]),
-            Ok(()),
+        (
+            "a copy",
+            compare(
+                covectors_of(&rt, alloc, 2, &["00"]),
+                covectors_of(&rt, alloc, 2, &["00"]),
+                Ok(()),
+            ),
         ),
-    ];
-    assert!(rt; found == [true; 4]);
+    ] {
+        assert!(rt; holds, "{case}");
+    }
 }

@@ -50,14 +50,27 @@ fn has_hull(alloc: Global, chi: Result<Chirotope, SampleError>, first: &str, sec
 #[test]
 fn paintings_and_hulls(rt: HostRuntime) {
     let alloc = rt.alloc();
-    let found = [
+    for (case, holds) in [
         // a cocircuit that fits is zero on black, that is at 2 and 3
-        is_painted(chirotope_of(&rt, alloc, 3, 4, "++++"), "+00+"),
-        is_acyclic(chirotope_of(&rt, alloc, 2, 2, "+"), true),
+        (
+            "a painting",
+            is_painted(chirotope_of(&rt, alloc, 3, 4, "++++"), "+00+"),
+        ),
+        (
+            "acyclic",
+            is_acyclic(chirotope_of(&rt, alloc, 2, 2, "+"), true),
+        ),
         // the circuit is all plus
-        is_acyclic(chirotope_of(&rt, alloc, 3, 4, "+-+-"), false),
+        (
+            "cyclic",
+            is_acyclic(chirotope_of(&rt, alloc, 3, 4, "+-+-"), false),
+        ),
         // each of two elements that form a basis has a cocircuit that is minus at it and zero at the other one
-        has_hull(alloc, chirotope_of(&rt, alloc, 2, 2, "+"), "-0", "0-"),
-    ];
-    assert!(rt; found == [true; 4]);
+        (
+            "a hull",
+            has_hull(alloc, chirotope_of(&rt, alloc, 2, 2, "+"), "-0", "0-"),
+        ),
+    ] {
+        assert!(rt; holds, "{case}");
+    }
 }

@@ -154,11 +154,15 @@ fn is_late<R: Threads + Sync>(rt: &R, alloc: Global, turns: u64, cost: u64, late
 #[test]
 fn little_work_starts_no_thread_and_much_is_shared(rt: HostRuntime) {
     let alloc = rt.alloc();
-    let found = [
-        is_late(&rt, alloc, FEW_TURNS, 10, true),
-        is_late(&rt, alloc, MOST_TURNS, u64::MAX, false),
-    ];
-    assert!(rt; found == [true; 2]);
+    for (case, holds) in [
+        ("little work", is_late(&rt, alloc, FEW_TURNS, 10, true)),
+        (
+            "much work",
+            is_late(&rt, alloc, MOST_TURNS, u64::MAX, false),
+        ),
+    ] {
+        assert!(rt; holds, "{case}");
+    }
 }
 
 // The least bad number is the same whatever the numbers cost.
@@ -188,12 +192,22 @@ fn are_many(found: Result<Vec<u64>, NoMemory>, first: u64, last: u64) -> bool {
 #[test]
 fn parts_in_order(rt: HostRuntime) {
     let alloc = rt.alloc();
-    let found = [
-        are_answers(map_parts(&rt, alloc, &Halves, 5), &[0, 0, 1, 1, 2]),
-        are_answers(map_parts(&rt, alloc, &Halves, 0), &[]),
-        are_many(map_parts(&rt, alloc, &Halves, 20_000), 0, 9_999),
-    ];
-    assert!(rt; found == [true; 3]);
+    for (case, holds) in [
+        (
+            "five parts",
+            are_answers(map_parts(&rt, alloc, &Halves, 5), &[0, 0, 1, 1, 2]),
+        ),
+        (
+            "no parts",
+            are_answers(map_parts(&rt, alloc, &Halves, 0), &[]),
+        ),
+        (
+            "20,000 parts",
+            are_many(map_parts(&rt, alloc, &Halves, 20_000), 0, 9_999),
+        ),
+    ] {
+        assert!(rt; holds, "{case}");
+    }
 }
 
 // The results are the same whatever they cost.

@@ -30,16 +30,32 @@ fn found_and_not(rt: HostRuntime) {
     let before = Unfound::Frontier(word_of(&[[1, -1, 0]]));
     let last = Unfound::Frontier(word_of(&[[1, 1, 0]]));
     let five = "++++++++++";
-    let found = [
-        finds(chirotope_of(&rt, alloc, 3, 3, "+"), 1, Ok(three)),
-        finds(chirotope_of(&rt, alloc, 3, 4, "++++"), 20, Ok(four)),
-        finds(chirotope_of(&rt, alloc, 3, 4, "++++"), 19, Err(before)),
-        finds(
-            chirotope_of(&rt, alloc, 3, 5, five),
-            52,
-            Err(Unfound::Exhausted),
+    for (case, holds) in [
+        (
+            "a basis",
+            finds(chirotope_of(&rt, alloc, 3, 3, "+"), 1, Ok(three)),
         ),
-        finds(chirotope_of(&rt, alloc, 3, 5, five), 51, Err(last)),
-    ];
-    assert!(rt; found == [true; 5]);
+        (
+            "four, at step 20",
+            finds(chirotope_of(&rt, alloc, 3, 4, "++++"), 20, Ok(four)),
+        ),
+        (
+            "four, a step too few",
+            finds(chirotope_of(&rt, alloc, 3, 4, "++++"), 19, Err(before)),
+        ),
+        (
+            "five, exhausted",
+            finds(
+                chirotope_of(&rt, alloc, 3, 5, five),
+                52,
+                Err(Unfound::Exhausted),
+            ),
+        ),
+        (
+            "five, a step too few",
+            finds(chirotope_of(&rt, alloc, 3, 5, five), 51, Err(last)),
+        ),
+    ] {
+        assert!(rt; holds, "{case}");
+    }
 }

@@ -49,19 +49,29 @@ fn of_covectors(found: Result<Covectors, SampleError>, rank: u8) -> bool {
 #[test]
 fn of_each_kind(rt: HostRuntime) {
     let alloc = rt.alloc();
-    let found = [
-        of_circuits(
-            alloc,
-            circuits_of(&rt, alloc, 4, &["+-00", "-+00", "000+", "000-"]),
-            "0+0+00",
+    for (case, holds) in [
+        (
+            "circuits",
+            of_circuits(
+                alloc,
+                circuits_of(&rt, alloc, 4, &["+-00", "-+00", "000+", "000-"]),
+                "0+0+00",
+            ),
         ),
-        of_cocircuits(
-            alloc,
-            cocircuits_of(&rt, alloc, 4, &["++00", "--00", "00+0", "00-0"]),
-            "0+0+00",
+        (
+            "cocircuits",
+            of_cocircuits(
+                alloc,
+                cocircuits_of(&rt, alloc, 4, &["++00", "--00", "00+0", "00-0"]),
+                "0+0+00",
+            ),
         ),
         // the only pair of opposite covectors
-        of_covectors(covectors_of(&rt, alloc, 3, &["000", "+-0", "-+0"]), 1),
-    ];
-    assert!(rt; found == [true; 3]);
+        (
+            "covectors",
+            of_covectors(covectors_of(&rt, alloc, 3, &["000", "+-0", "-+0"]), 1),
+        ),
+    ] {
+        assert!(rt; holds, "{case}");
+    }
 }

@@ -79,35 +79,55 @@ fn combinations(rt: HostRuntime) {
     let past = SHORT_MAX + 1;
     let greatest = MAX - SHORT_MAX;
     let least = MIN + 27_670_116_110_564_327_423;
-    let found = [
-        is_combined(2, &mut [6, 4, 9], 3, &[1, 2, 3], 0, &[9, 2, 9]),
-        is_combined(2, &mut [1 << 126], 0, &[0], 1, &[1 << 126]),
-        is_combined(1, &mut [0, MAX, MAX], -1, &[MAX, 1, 1], 2, &[0, MAX, MAX]),
-        is_combined(
-            SHORT_MIN,
-            &mut [SHORT_MIN, SHORT_MAX],
-            SHORT_MAX,
-            &[SHORT_MIN, SHORT_MAX],
-            0,
-            &[greatest, least],
+    for (case, holds) in [
+        (
+            "small numbers",
+            is_combined(2, &mut [6, 4, 9], 3, &[1, 2, 3], 0, &[9, 2, 9]),
         ),
-        is_combined(past, &mut [past], SHORT_MAX, &[SHORT_MIN], 0, &[greatest]),
-        is_combined(past, &mut [past], SHORT_MIN, &[past], 1, &[past]),
-    ];
-    assert!(rt; found == [true; 6]);
+        (
+            "one too wide",
+            is_combined(2, &mut [1 << 126], 0, &[0], 1, &[1 << 126]),
+        ),
+        (
+            "the second too wide",
+            is_combined(1, &mut [0, MAX, MAX], -1, &[MAX, 1, 1], 2, &[0, MAX, MAX]),
+        ),
+        (
+            "at the limit of 64 bits",
+            is_combined(
+                SHORT_MIN,
+                &mut [SHORT_MIN, SHORT_MAX],
+                SHORT_MAX,
+                &[SHORT_MIN, SHORT_MAX],
+                0,
+                &[greatest, least],
+            ),
+        ),
+        (
+            "past it",
+            is_combined(past, &mut [past], SHORT_MAX, &[SHORT_MIN], 0, &[greatest]),
+        ),
+        (
+            "past it and too wide",
+            is_combined(past, &mut [past], SHORT_MIN, &[past], 1, &[past]),
+        ),
+    ] {
+        assert!(rt; holds, "{case}");
+    }
 }
 
 #[test]
 fn short_numbers(rt: HostRuntime) {
-    let found = [
-        is_short(SHORT_MAX),
-        is_short(SHORT_MIN),
-        are_short(&[SHORT_MIN, 0, SHORT_MAX]),
-        !is_short(SHORT_MAX + 1),
-        !is_short(SHORT_MIN - 1),
-        !are_short(&[0, MIN]),
-    ];
-    assert!(rt; found == [true; 6]);
+    for (case, holds) in [
+        ("greatest", is_short(SHORT_MAX)),
+        ("least", is_short(SHORT_MIN)),
+        ("a row", are_short(&[SHORT_MIN, 0, SHORT_MAX])),
+        ("past the greatest", !is_short(SHORT_MAX + 1)),
+        ("past the least", !is_short(SHORT_MIN - 1)),
+        ("a row with one past it", !are_short(&[0, MIN])),
+    ] {
+        assert!(rt; holds, "{case}");
+    }
 }
 
 /// Whether a row divided by the greatest common divisor of its numbers is this one.
@@ -119,11 +139,19 @@ fn is_primitive(row: &mut [i128], expected: &[i128]) -> bool {
 // of rows, and of pairs of numbers
 #[test]
 fn divisors(rt: HostRuntime) {
-    let found = [
-        is_primitive(&mut [12, -18, 0, 30], &[2, -3, 0, 5]),
-        is_primitive(&mut [0, 0], &[0, 0]),
-        is_primitive(&mut [MIN, 0, MIN], &[-1, 0, -1]),
-    ];
+    for (case, holds) in [
+        (
+            "small numbers",
+            is_primitive(&mut [12, -18, 0, 30], &[2, -3, 0, 5]),
+        ),
+        ("zeros", is_primitive(&mut [0, 0], &[0, 0])),
+        (
+            "least numbers",
+            is_primitive(&mut [MIN, 0, MIN], &[-1, 0, -1]),
+        ),
+    ] {
+        assert!(rt; holds, "{case}");
+    }
     let greatest = [
         gcd(12, 18),
         gcd(18, 12),
@@ -132,7 +160,7 @@ fn divisors(rt: HostRuntime) {
         gcd(4, 0),
         gcd(0, 0),
     ];
-    assert!(rt; found == [true; 3] && greatest == [6, 6, 1, 4, 4, 0]);
+    assert_eq!(rt; greatest, [6, 6, 1, 4, 4, 0]);
 }
 
 #[test]

@@ -41,14 +41,36 @@ fn is_refused<T: Drop>(found: Result<T, SampleError>) -> bool {
 #[test]
 fn refused(rt: HostRuntime) {
     let alloc = rt.alloc();
-    let found = [
-        is_refused(chirotope_of(&rt, alloc, 2, 3, "+-")),
-        is_refused(chirotope_of(&rt, alloc, 2, 3, "000")),
-        is_refused(chirotope_of(&rt, alloc, 4, 3, "")),
-        is_refused(chirotope_of(&rt, alloc, 0, 0, "+")),
-        is_refused(covectors_of(&rt, alloc, 2, &["++", "--"])),
-        is_refused(circuits_of(&rt, alloc, 2, &["++"])),
-        is_refused(vectors_of(alloc, 21, &[])),
-    ];
-    assert!(rt; found == [true; 7]);
+    for (case, holds) in [
+        (
+            "a sign too few",
+            is_refused(chirotope_of(&rt, alloc, 2, 3, "+-")),
+        ),
+        (
+            "no basis",
+            is_refused(chirotope_of(&rt, alloc, 2, 3, "000")),
+        ),
+        (
+            "a rank above the elements",
+            is_refused(chirotope_of(&rt, alloc, 4, 3, "")),
+        ),
+        (
+            "no element",
+            is_refused(chirotope_of(&rt, alloc, 0, 0, "+")),
+        ),
+        (
+            "no zero vector",
+            is_refused(covectors_of(&rt, alloc, 2, &["++", "--"])),
+        ),
+        (
+            "no negative",
+            is_refused(circuits_of(&rt, alloc, 2, &["++"])),
+        ),
+        (
+            "an element too many",
+            is_refused(vectors_of(alloc, 21, &[])),
+        ),
+    ] {
+        assert!(rt; holds, "{case}");
+    }
 }

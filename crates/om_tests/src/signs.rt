@@ -52,11 +52,11 @@ fn vectors(rt: HostRuntime) {
         y.minus(),
         y.len() as u32,
     ];
+    assert!(rt; masks == [0b01, 0b01, 0b10, 0b01, 2]);
     // a vector comes before each longer one that begins with it
     let short = vector_of(1, "0");
-    let orders = [short < vector_of(2, "0-"), y < short];
-    assert!(rt; masks == [0b01, 0b01, 0b10, 0b01, 2]);
-    assert!(rt; orders == [true; 2]);
+    assert!(rt; short < vector_of(2, "0-"));
+    assert!(rt; y < short);
 }
 
 /// Pairs of vectors. Whether they are orthogonal: the products of their signs are all zero, or one is plus and one
@@ -105,12 +105,13 @@ fn lists(rt: HostRuntime) {
     set_first(&mut bytes, 3);
     let second = bytes.push(2).is_ok();
     let numbers: List<u32> = bytes.empty_like();
-    let found = [
-        first,
-        copied,
-        second,
-        bytes.as_slice() == [3, 2].as_slice(),
-        numbers.len() == 0,
-    ];
-    assert!(rt; found == [true; 5]);
+    for (case, holds) in [
+        ("a first byte", first),
+        ("a copy of it", copied),
+        ("a second byte", second),
+        ("both bytes", bytes.as_slice() == [3, 2].as_slice()),
+        ("an empty list", numbers.len() == 0),
+    ] {
+        assert!(rt; holds, "{case}");
+    }
 }

@@ -51,11 +51,21 @@ fn accepted_and_refused(rt: HostRuntime) {
         p: Subset::from_mask(0b1, 6),
         q: Subset::from_mask(0b11110, 6),
     };
-    let found = [
-        is_checked(&rt, alloc, 3, 4, "++++", None),
-        is_checked(&rt, alloc, 1, 3, "000", Some(ThreeRefused::AllZero)),
-        is_checked(&rt, alloc, 2, 4, "++000+", Some(exchange)),
-        is_checked(&rt, alloc, 3, 6, "+++++-++++++++++++++", Some(relation)),
-    ];
-    assert!(rt; found == [true; 4]);
+    for (case, holds) in [
+        ("accepted", is_checked(&rt, alloc, 3, 4, "++++", None)),
+        (
+            "all zero",
+            is_checked(&rt, alloc, 1, 3, "000", Some(ThreeRefused::AllZero)),
+        ),
+        (
+            "no exchange",
+            is_checked(&rt, alloc, 2, 4, "++000+", Some(exchange)),
+        ),
+        (
+            "a three-term relation",
+            is_checked(&rt, alloc, 3, 6, "+++++-++++++++++++++", Some(relation)),
+        ),
+    ] {
+        assert!(rt; holds, "{case}");
+    }
 }

@@ -9,6 +9,7 @@ use om_signs::{Block, List, Sign};
 use om_subsets::Subset;
 use om_wiring::{BadWiring, Values, Wiring, WiringRefused, check, chirotope, sweep};
 use std::alloc::Global;
+use std::process::Abort;
 
 /// Whether a wiring diagram with these blocks was accepted; or whether these were refused for a reason, and handed
 /// back.
@@ -49,19 +50,25 @@ pub fn sweep_of(alloc: Global, chi: Result<Chirotope, SampleError>) -> Option<Wi
     }
 }
 
-/// Whether there is a wiring diagram of four wires, its chirotope has the signs of a text, and its blocks are these
-/// and are accepted.
-fn is_of_four(alloc: Global, found: Option<Wiring>, text: &str, blocks: &[Block]) -> bool {
-    match found {
-        Some(w) => {
-            let answers = [
-                w.elements() == 4,
-                is_chirotope(chirotope(alloc, &w), 3, 4, text),
-                is_checked(check(4, w.into_blocks()), None, blocks),
-            ];
-            answers == [true; 3]
-        }
-        None => false,
+/// Asserts that there is a wiring diagram of four wires, that its chirotope has the signs of a text, and that its
+/// blocks are these and are accepted.
+fn is_of_four<R: Abort>(
+    rt: &R,
+    alloc: Global,
+    found: Option<Wiring>,
+    text: &str,
+    blocks: &[Block],
+) {
+    let w = found.expect(rt, "a wiring diagram");
+    for (case, holds) in [
+        ("wires", w.elements() == 4),
+        ("chirotope", is_chirotope(chirotope(alloc, &w), 3, 4, text)),
+        (
+            "blocks",
+            is_checked(check(4, w.into_blocks()), None, blocks),
+        ),
+    ] {
+        assert!(rt; holds, "{case}");
     }
 }
 
@@ -76,20 +83,10 @@ const CROSSED_AT_ONCE: [Block; 4] = [
 #[test]
 fn four_wires(rt: HostRuntime) {
     let alloc = rt.alloc();
-    let found = [
-        is_of_four(
-            alloc,
-            sweep_of(alloc, chirotope_of(&rt, alloc, 3, 4, "0+++")),
-            "0+++",
-            &CROSSED_AT_ONCE,
-        ),
-        // the last order of no blocks isn't the reverse of the first
-        is_checked(
-            check(4, List::new(alloc)),
-            Some(WiringRefused::NotReversed),
-            &[],
-        ),
-        has_rows(chirotope_of(&rt, alloc, 3, 4, "+-++")),
-    ];
-    assert!(rt; found == [true; 3]);
+    let swept = sweep_of(alloc, chirotope_of(&rt, alloc, 3, 4, "0+++"));
+    is_of_four(&rt, alloc, swept, "0+++", &CROSSED_AT_ONCE);
+    // the last order of no blocks isn't the reverse of the first
+    let none = check(4, List::new(alloc));
+    assert!(rt; is_checked(none, Some(WiringRefused::NotReversed), &[]));
+    assert!(rt; has_rows(chirotope_of(&rt, alloc, 3, 4, "+-++")));
 }
