@@ -29,7 +29,7 @@ GROUPS = {
         "om_laws om_chirotope om_threeterm om_matroid om_circuits om_covectors om_denotation om_oriented om_convert "
         "om_dual om_minors om_paint om_lexext",
     "Rank 3": "om_vectors om_points om_wiring om_mutate om_localize om_make",
-    "Classes up to relabelling and reorientation": "om_symmetry om_label om_covers om_least om_levels",
+    "Classes up to relabelling and reorientation": "om_symmetry om_label om_covers om_least om_levels om_chain",
     "The linear program and evidence": "om_rows om_simplex om_grassmann om_certificate om_budgets om_decide",
     "Texts": "om_lines om_document om_text om_pieces om_printing om_words om_reply om_answer",
     "The program": "om_port om_representation om_commands om_plane om_program om om_each om_existence",
