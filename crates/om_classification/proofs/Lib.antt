@@ -1,0 +1,10 @@
+pub mod Bytes
+pub mod Closings
+pub mod Documents
+pub mod ExactLists
+pub mod Reached
+pub mod Results
+pub mod Steps
+pub mod Whole
+pub mod WordLaws
+pub mod Written

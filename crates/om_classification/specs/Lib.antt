@@ -1,0 +1,6 @@
+pub mod Requests
+pub mod Documents
+pub mod Texts
+pub mod Lists
+pub mod Progress
+pub mod Runs
