@@ -32,7 +32,8 @@ GROUPS = {
     "Classes up to relabelling and reorientation": "om_symmetry om_label om_covers om_least om_levels om_chain",
     "The linear program and evidence": "om_rows om_simplex om_grassmann om_certificate om_budgets om_decide",
     "Texts": "om_lines om_document om_text om_pieces om_printing om_words om_reply om_answer",
-    "The program": "om_port om_representation om_commands om_plane om_program om om_each om_existence",
+    "The program":
+        "om_port om_representation om_commands om_plane om_program om om_each om_classification om_classes om_existence",
     "Tests, and callers to copy from": "om_samples om_callers om_tests om_class_tests om_program_tests",
 }
 
