@@ -308,8 +308,8 @@ def are_all_there():
     named = {line.split()[0] for line, _ in FILTERS + CATALOGUE + REFEREE}
     paths = [path for folder in ("neighbours", "catalogue") for path in glob.glob(os.path.join(TOP, folder, "*"))]
     programs = {os.path.basename(path) for path in paths if os.path.isfile(path) and os.access(path, os.X_OK)}
-    # classify runs the others
-    expect("the filters", named, {name for name in programs if not name.startswith("check")} - {"classify"})
+    # classify runs the others, and array-job is what it submits
+    expect("the filters", named, {name for name in programs if not name.startswith("check")} - {"array-job", "classify"})
 
 
 def main():
