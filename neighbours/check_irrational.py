@@ -174,9 +174,13 @@ def wrong_variants(data, parts):
             if line[group]:
                 changed = points[: line.start(group)] + str(int(line[group]) % 9 + 1) + points[line.end(group):]
                 yield "an element of the construction", [chirotope, changed, no_rational]
-    for x in "279":
-        changed = points.replace("(7, 9, 2, 1)", "(7, 9, 2, %s)" % x)
-        yield "a point off the line", [chirotope, changed, no_rational]
+    free = re.search(r"parameter := \((\d), (\d), (\d), (\d)\)", points)
+    for group in range(1, 5):
+        for element in "123456789":
+            # the last one is any element off the line of the three others
+            if element in free.groups()[:3] if group == 4 else element != free[group]:
+                changed = points[: free.start(group)] + element + points[free.end(group):]
+                yield "an element of the free point's line", [chirotope, changed, no_rational]
 
 
 def zeros_of(data):
