@@ -1,5 +1,5 @@
 #!/bin/sh
-# install.sh [PREFIX]: puts om and om-each with their manual pages, completions, filters, examples and pages under PREFIX,
+# install.sh [PREFIX]: puts om, om-each and om-classes with their manual pages, completions, filters, examples and pages under PREFIX,
 # which is /usr/local where none is named; with DESTDIR in the environment, under $DESTDIR$PREFIX, as packages are made.
 # It runs in a copy of the repository, where it builds the programs first, and in an unpacked archive (packaging/archive.sh).
 # install.sh --uninstall [PREFIX]: removes what it put there, by the list PREFIX/share/om/installed.txt, and the folders that
@@ -37,11 +37,12 @@ if [ "$removes" = yes ]; then
   cp "$list" "${TMPDIR:-/tmp}/om-installed.$$"
   remove <"${TMPDIR:-/tmp}/om-installed.$$"
   rm -f "${TMPDIR:-/tmp}/om-installed.$$"
-  echo "om and om-each are removed from $to"
+  echo "om, om-each and om-classes are removed from $to"
   exit 0
 fi
-# The launchers build what isn't built; om refuses an empty input, and om-each finds no piece in it.
-if [ "$("$here/om" accept </dev/null)" != "refused line 1 missing" ] || ! "$here/om-each" accept </dev/null; then
+# The launchers build what isn't built; om and om-classes refuse an empty input, and om-each finds no piece in it.
+if [ "$("$here/om" accept </dev/null)" != "refused line 1 missing" ] || ! "$here/om-each" accept </dev/null ||
+  [ "$("$here/om-classes" all </dev/null)" != "refused empty" ]; then
   echo "install.sh: the programs don't run" >&2
   exit 1
 fi
@@ -84,16 +85,19 @@ point() {
   echo "$2" >>"$new"
 }
 
-put 755 libexec/om "$here/crates/om/out/om" "$here/crates/om_each/out/om_each"
+put 755 libexec/om "$here/crates/om/out/om" "$here/crates/om_each/out/om_each" "$here/crates/om_classes/out/om_classes"
 put 755 bin "$here/om"
 point om bin/om-each
+point om bin/om-classes
 put 644 share/man/man1 "$here"/man/*.1
 put_as "$here/completions/om.bash" share/bash-completion/completions/om
 point om share/bash-completion/completions/om-each
+point om share/bash-completion/completions/om-classes
 put_as "$here/completions/_om" share/zsh/site-functions/_om
 put_as "$here/completions/om.fish" share/fish/vendor_completions.d/om.fish
 point om.fish share/fish/vendor_completions.d/om-each.fish
-put 644 share/om "$here/completions/commands.txt" "$here/VERSION" "$here"/LICENSE-*
+point om.fish share/fish/vendor_completions.d/om-classes.fish
+put 644 share/om "$here"/completions/*.txt "$here/VERSION" "$here"/LICENSE-*
 for folder in neighbours neighbours/python catalogue pictures examples; do
   # the checks there are for a copy of the repository
   for file in "$here/$folder"/*; do
@@ -103,6 +107,7 @@ done
 # the filters look for the launchers beside their folder
 point ../../bin/om share/om/om
 point ../../bin/om-each share/om/om-each
+point ../../bin/om-classes share/om/om-classes
 put 644 share/doc/om "$here/README.md" "$here/CONTRIBUTING.md" "$here/CHANGELOG.md" "$here"/LICENSE-* "$here/CITATION.cff" \
   "$here/VERSION" "$here/PROVED"
 put 644 share/doc/om/docs "$here"/docs/*.md "$here"/docs/*.svg
@@ -119,4 +124,4 @@ if [ -f "$list" ]; then
   grep -vxFf "$new" "$new.old" | remove
 fi
 sort "$new" >"$list"
-echo "om and om-each are installed in $to/bin"
+echo "om, om-each and om-classes are installed in $to/bin"

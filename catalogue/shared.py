@@ -1,5 +1,5 @@
-"""What the programs of this folder share: they find `om_each`, read documents and claims by neighbours/documents.py,
-ask `om_each` over two pipes, and end well.
+"""What the programs of this folder share: they find `om_each` and `om_classes`, read documents and claims by
+neighbours/documents.py, ask these programs over two pipes, and end well.
 
 A document that is read here is of version 1, a chirotope of rank 3. Python's standard library alone.
 """
@@ -60,6 +60,13 @@ def om_each():
     places = [os.path.join(TOP, "crates", "om_each", "out", "om_each"), os.path.join(TOP, "om-each"), "om-each",
               "om_each"]
     return find("OM_EACH", places, "om_each isn't there: build it, or name it by OM_EACH")
+
+
+def om_classes():
+    """The program that reads lists of classes, and says what is the least chirotope of a class."""
+    places = [os.path.join(TOP, "crates", "om_classes", "out", "om_classes"), os.path.join(TOP, "om-classes"),
+              "om-classes", "om_classes"]
+    return find("OM_CLASSES", places, "om_classes isn't there: build it, or name it by OM_CLASSES")
 
 
 def labelg():
@@ -145,10 +152,10 @@ def lots(items):
 
 
 class Conversation:
-    """`om_each` with these words, kept open: it answers a document as soon as it has it."""
+    """`om_each`, or another program, with these words, kept open: it answers a document as soon as it has it."""
 
-    def __init__(self, *words):
-        self.process = subprocess.Popen([om_each(), *words], stdin=subprocess.PIPE, stdout=subprocess.PIPE)
+    def __init__(self, *words, program=None):
+        self.process = subprocess.Popen([program or om_each(), *words], stdin=subprocess.PIPE, stdout=subprocess.PIPE)
         for pipe in (self.process.stdin, self.process.stdout):
             try:
                 fcntl.fcntl(pipe, PIPE_SIZE, 1 << 20)
@@ -185,7 +192,8 @@ class Conversation:
     def line(self):
         line = self.process.stdout.readline()
         if not line.endswith(b"\n"):
-            raise Refused("om_each ended with code %d" % self.process.wait())
+            name = os.path.basename(self.process.args[0])
+            raise Refused("%s ended with code %d" % (name, self.process.wait()))
         return line
 
     def close(self):

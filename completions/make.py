@@ -1,11 +1,11 @@
 #!/usr/bin/env python3
 """completions/make.py [--check]
 
-Makes the completions for bash, zsh and fish of the table commands.txt: om.bash, _om and om.fish beside it. With --check
-it writes nothing, and names the files that aren't as it would make them; the exit code is 1 then. What may stand at a
-place of a command is taken from its words there: words with | between them, options with = and the number that holds
-without each, an element for E, A, B and C, and a signed one for W. Behind ... any more may follow. Files are completed
-behind < and > alone.
+Makes the completions for bash, zsh and fish of the tables commands.txt and classes.txt: om.bash, _om and om.fish beside
+them. With --check it writes nothing, and names the files that aren't as it would make them; the exit code is 1 then.
+What may stand at a place of a command is taken from its words there: words with | between them, options with = and the
+number that holds without each, an element for E, A, B and C, and a signed one for W. Behind ... any more may follow. A
+command of classes.txt has options without a number alone. Files are completed behind < and > alone.
 """
 import os
 import re
@@ -15,6 +15,7 @@ HERE = os.path.dirname(os.path.abspath(__file__))
 NUMBERS = " ".join(str(number) for number in range(1, 21))
 SIGNED = " ".join(sign + str(number) for sign in "+-" for number in range(1, 21))
 PROGRAMS = "om om-each om_each"
+CLASSES = "om-classes om_classes"
 
 
 class Command:
@@ -28,6 +29,7 @@ class Command:
         self.name, *words = synopsis.split()
         self.repeats = words[-1:] == ["..."]
         self.options = dict(zip(re.findall(r"\[--([a-z]+)=", synopsis), re.findall(r"\[([0-9]+)\]", numbers)))
+        self.flags = re.findall(r"\[(--[a-z]+)\]", synopsis)
         words = [word for word in words if word != "..." and not word.startswith("[")]
         self.places = [self.choice(word, place, words) for place, word in enumerate(words)]
 
@@ -41,16 +43,16 @@ class Command:
         return ""
 
 
-def table():
-    with open(os.path.join(HERE, "commands.txt")) as file:
+def table(name):
+    with open(os.path.join(HERE, name)) as file:
         blocks = file.read().strip().split("\n\n")
     if any("'" in block for block in blocks if not block.startswith("#")):
         raise SystemExit("completions/make.py: a ' in the table would end a text of the shells")
     return [Command(block) for block in blocks if not block.startswith("#")]
 
 
-BASH = """# Completion of om and om-each for bash, made by completions/make.py: source it, or put it into the folder of
-# bash-completion under both names. It works without compopt, too, as in zsh by bashcompinit.
+BASH = """# Completion of om, om-each and om-classes for bash, made by completions/make.py: source it, or put it into the folder
+# of bash-completion under each of these names. It works without compopt, too, as in zsh by bashcompinit.
 _om() {
   local word="${COMP_WORDS[COMP_CWORD]}" before="${COMP_WORDS[COMP_CWORD-1]}" option="" ahead="" found=""
   COMPREPLY=()
@@ -86,11 +88,23 @@ _om() {
 _om_option() {
   if type compopt >/dev/null 2>&1; then compopt "$@" 2>/dev/null; fi
 }
+_om_classes() {
+  local word="${COMP_WORDS[COMP_CWORD]}" before="${COMP_WORDS[COMP_CWORD-1]}" found=""
+  COMPREPLY=()
+  case "$before$word" in *[\\<\\>]*) return ;; esac
+  _om_option +o default
+  case "$COMP_CWORD:${COMP_WORDS[1]}" in
+    1:*) found="%(families)s" ;;
+%(flags)s
+  esac
+  COMPREPLY=($(compgen -W "$found" -- "$word"))
+}
 complete -o default -F _om om ./om om_each om-each ./om-each
+complete -o default -F _om_classes om_classes om-classes ./om-classes
 """
 
 
-def bash(commands):
+def bash(commands, classes):
     options = ["      %s:--%s) found=%s ;;" % (it.name, option, number)
                for it in commands for option, number in it.options.items()]
     places = []
@@ -103,11 +117,13 @@ def bash(commands):
             pattern = "%s:*" % it.name if not it.places else "%s:%s" % (it.name, len(it.places) + 2)
             places.append('      %s) found="%s" ;;' % (pattern, " ".join("--%s=" % name for name in it.options)))
     return BASH % {"verbs": " ".join(it.name for it in commands if it.name != "make"), "options": "\n".join(options),
-                   "places": "\n".join(places)}
+                   "places": "\n".join(places), "families": " ".join(it.name for it in classes),
+                   "flags": "\n".join('    2:%s) found="%s" ;;' % (it.name, " ".join(it.flags))
+                                      for it in classes if it.flags)}
 
 
 ZSH = """#compdef %(programs)s
-# Completion of om and om-each for zsh, made by completions/make.py: put it into a folder of $fpath.
+# Completion of om, om-each and om-classes for zsh, made by completions/make.py: put it into a folder of $fpath.
 _om() {
   local -a verbs
   local before=${words[CURRENT-1]}
@@ -127,11 +143,21 @@ _om() {
 %(places)s
   esac
 }
-_om "$@"
+_om_classes() {
+  local -a verbs
+  verbs=(
+%(families)s
+  )
+  case $CURRENT:${words[2]} in
+    2:*) _describe -t commands command verbs ;;
+%(flags)s
+  esac
+}
+if [[ ${service:t} = *classes* ]]; then _om_classes "$@"; else _om "$@"; fi
 """
 
 
-def zsh(commands):
+def zsh(commands, classes):
     def add(choice):
         if choice == "more":
             return "compadd -V elements -- {$(( ${${before//[^0-9]/}:-0} + 1 ))..20}"
@@ -147,12 +173,15 @@ def zsh(commands):
         if it.options:
             places.append("    %s:%s) compadd -S '' -- %s ;;" % (it.name, "*" if not it.places else len(it.places) + 3,
                                                                " ".join("--%s=" % name for name in it.options)))
-    return ZSH % {"programs": PROGRAMS, "options": "\n".join(options), "places": "\n".join(places),
-                  "verbs": "\n".join("    '%s:%s'" % (it.name, it.answers) for it in commands)}
+    return ZSH % {"programs": PROGRAMS + " " + CLASSES, "options": "\n".join(options), "places": "\n".join(places),
+                  "verbs": "\n".join("    '%s:%s'" % (it.name, it.answers) for it in commands),
+                  "families": "\n".join("    '%s:%s'" % (it.name, it.answers) for it in classes),
+                  "flags": "\n".join("    3:%s) compadd -- %s ;;" % (it.name, " ".join(it.flags))
+                                     for it in classes if it.flags)}
 
 
-FISH = """# Completion of om and om-each for fish, made by completions/make.py: put it into a folder of completions, once
-# for each name.
+FISH = """# Completion of om, om-each and om-classes for fish, made by completions/make.py: put it into a folder of
+# completions, once for each name.
 function __om_at --description 'the command is this one, and the word is at this place, or at any behind it'
     set -l words (commandline -opc)
     test "$words[2]" = $argv[1]; and begin
@@ -175,10 +204,14 @@ end
 for program in om
 %(make)s
 end
+for program in %(classes)s
+    complete -c $program -f
+%(families)s
+end
 """
 
 
-def fish(commands):
+def fish(commands, classes):
     def verb(it):
         return "    complete -c $program -n '__om_first' -a %s -d '%s'" % (it.name, it.answers)
 
@@ -192,17 +225,20 @@ def fish(commands):
             here = "__om_at %s %d more" % (it.name, len(it.places) + 2)
             yield "    complete -c $program -n '%s' -l %s -x -a %s" % (here, name, number)
     both, alone = [it for it in commands if it.name != "make"], [it for it in commands if it.name == "make"]
+    flags = ["    complete -c $program -n '__om_at %s 2' -l %s" % (it.name, flag[2:])
+             for it in classes for flag in it.flags]
     return FISH % {"programs": PROGRAMS, "verbs": "\n".join(map(verb, both)),
                    "places": "\n".join(line for it in both for line in places_of(it)),
-                   "make": "\n".join(line for it in alone for line in [verb(it), *places_of(it)])}
+                   "make": "\n".join(line for it in alone for line in [verb(it), *places_of(it)]),
+                   "classes": CLASSES, "families": "\n".join([*map(verb, classes), *flags])}
 
 
 def main():
     if sys.argv[1:] not in ([], ["--check"]):
         print("usage: completions/make.py [--check]", file=sys.stderr)
         return 2
-    commands, code = table(), 0
-    for name, text in ("om.bash", bash(commands)), ("_om", zsh(commands)), ("om.fish", fish(commands)):
+    tables, code = (table("commands.txt"), table("classes.txt")), 0
+    for name, text in ("om.bash", bash(*tables)), ("_om", zsh(*tables)), ("om.fish", fish(*tables)):
         path = os.path.join(HERE, name)
         if sys.argv[1:]:
             with open(path) as file:

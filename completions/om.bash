@@ -1,5 +1,5 @@
-# Completion of om and om-each for bash, made by completions/make.py: source it, or put it into the folder of
-# bash-completion under both names. It works without compopt, too, as in zsh by bashcompinit.
+# Completion of om, om-each and om-classes for bash, made by completions/make.py: source it, or put it into the folder
+# of bash-completion under each of these names. It works without compopt, too, as in zsh by bashcompinit.
 _om() {
   local word="${COMP_WORDS[COMP_CWORD]}" before="${COMP_WORDS[COMP_CWORD-1]}" option="" ahead="" found=""
   COMPREPLY=()
@@ -50,4 +50,17 @@ _om() {
 _om_option() {
   if type compopt >/dev/null 2>&1; then compopt "$@" 2>/dev/null; fi
 }
+_om_classes() {
+  local word="${COMP_WORDS[COMP_CWORD]}" before="${COMP_WORDS[COMP_CWORD-1]}" found=""
+  COMPREPLY=()
+  case "$before$word" in *[\<\>]*) return ;; esac
+  _om_option +o default
+  case "$COMP_CWORD:${COMP_WORDS[1]}" in
+    1:*) found="all uniform" ;;
+    2:all) found="--complete" ;;
+    2:uniform) found="--complete" ;;
+  esac
+  COMPREPLY=($(compgen -W "$found" -- "$word"))
+}
 complete -o default -F _om om ./om om_each om-each ./om-each
+complete -o default -F _om_classes om_classes om-classes ./om-classes

@@ -1,5 +1,5 @@
-# Completion of om and om-each for fish, made by completions/make.py: put it into a folder of completions, once
-# for each name.
+# Completion of om, om-each and om-classes for fish, made by completions/make.py: put it into a folder of
+# completions, once for each name.
 function __om_at --description 'the command is this one, and the word is at this place, or at any behind it'
     set -l words (commandline -opc)
     test "$words[2]" = $argv[1]; and begin
@@ -51,4 +51,11 @@ end
 for program in om
     complete -c $program -n '__om_first' -a make -d 'K points that the number N gives; it reads nothing'
     complete -c $program -n '__om_at make 3 more' -l count -x -a 16
+end
+for program in om-classes om_classes
+    complete -c $program -f
+    complete -c $program -n '__om_first' -a all -d 'whether lists on 4, 5, and so on elements have each class of simple chirotopes, or the first thing that is wrong'
+    complete -c $program -n '__om_first' -a uniform -d 'whether they have each class of uniform chirotopes, which have no sign 0'
+    complete -c $program -n '__om_at all 2' -l complete
+    complete -c $program -n '__om_at uniform 2' -l complete
 end

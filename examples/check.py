@@ -52,9 +52,8 @@ def main():
     missing = [(package, known) for package, programs, known in PACKAGES if not any(map(shutil.which, programs))]
     for package, _ in missing:
         print("%s isn't installed: the commands that need it are left out" % package)
-    for launcher in ("./om", "./om-each"):
-        subprocess.run([launcher, "accept"], cwd=TOP, stdin=open(os.path.join(TOP, "examples", "pappus.om")),
-                       stdout=subprocess.DEVNULL)
+    for launcher, word in (("./om", "accept"), ("./om-each", "accept"), ("./om-classes", "all")):
+        subprocess.run([launcher, word], cwd=TOP, stdin=subprocess.DEVNULL, stdout=subprocess.DEVNULL)
     for page in PAGES:
         with open(os.path.join(TOP, page)) as file:
             text = file.read()

@@ -9,19 +9,21 @@ here=$(cd "$(dirname "$(readlink -f "${BASH_SOURCE[0]}")")/.." && pwd)
 to=${1:-$here/out}
 command -v rt >/dev/null || { echo "archive.sh: rt, whose line goes into the archive, isn't on the path" >&2; exit 1; }
 # the launchers build what isn't built, or is older than its sources
-for launcher in om om-each; do
-  "$here/$launcher" accept </dev/null >/dev/null || [ $? -eq 1 ]
+for call in "om accept" "om-each accept" "om-classes all"; do
+  # shellcheck disable=SC2086
+  "$here"/$call </dev/null >/dev/null || [ $? -eq 1 ]
 done
 version=$(<"$here/VERSION")
 name=om-$version-x86_64-linux
 room=$(mktemp -d)
 trap 'rm -rf "$room"' EXIT
 tree=$room/om-$version
-mkdir -p "$to" "$tree/crates/om/out" "$tree/crates/om_each/out"
-cp "$here/crates/om/out/om" "$tree/crates/om/out/"
-cp "$here/crates/om_each/out/om_each" "$tree/crates/om_each/out/"
+for program in om om_each om_classes; do
+  mkdir -p "$to" "$tree/crates/$program/out"
+  cp "$here/crates/$program/out/$program" "$tree/crates/$program/out/"
+done
 cd "$here"
-cp -P om om-each install.sh README.md CONTRIBUTING.md CHANGELOG.md LICENSE-* CITATION.cff VERSION "$tree/"
+cp -P om om-each om-classes install.sh README.md CONTRIBUTING.md CHANGELOG.md LICENSE-* CITATION.cff VERSION "$tree/"
 for folder in man completions neighbours catalogue pictures examples rows; do
   [ ! -d "$folder" ] || cp -R "$folder" "$tree/"
 done
@@ -38,8 +40,8 @@ commit=$(git rev-parse HEAD 2>/dev/null || echo unknown)
 {
   echo "Proved and built with $(rt version)"
   echo "from commit $commit"
-  echo "for x86-64 and Linux with a C library that has $(cat crates/om/out/om crates/om_each/out/om_each | grep -ao 'GLIBC_[0-9.]*' | sort -uV | tail -n 1)"
-  (cd "$tree" && sha256sum crates/om/out/om crates/om_each/out/om_each)
+  echo "for x86-64 and Linux with a C library that has $(cat "$tree"/crates/*/out/om* | grep -ao 'GLIBC_[0-9.]*' | sort -uV | tail -n 1)"
+  (cd "$tree" && sha256sum crates/*/out/om*)
 } >"$tree/PROVED"
 # the same bytes for the same files: sorted, and with the time of the commit
 moment=$(git log -1 --format=%ct 2>/dev/null || date +%s)

@@ -1,5 +1,6 @@
 #!/usr/bin/env bash
-# packaging/build.sh [om] [om_each]: proves and builds the programs, both where none is named, over what earlier calls built.
+# packaging/build.sh [om] [om_each] [om_classes]: proves and builds the programs, om and om_each where none is named, over
+# what earlier calls built.
 # Where more than two crates are wanting, `rt ci` gets the crates that the programs stand on, without their must-fail
 # edits, in a folder for the time being. It proves as many side by side as there are processors and 4 GB of memory for
 # each (RT_JOBS is another number), those first for which most others wait, and keeps beside the toolchain what is
@@ -10,7 +11,10 @@ set -u
 here=$(cd "$(dirname "$(readlink -f "${BASH_SOURCE[0]}")")/.." && pwd) || exit 1
 [ $# -gt 0 ] || set -- om om_each
 for program in "$@"; do
-  case $program in om | om_each) ;; *) echo "usage: packaging/build.sh [om] [om_each]" >&2; exit 2 ;; esac
+  case $program in
+    om | om_each | om_classes) ;;
+    *) echo "usage: packaging/build.sh [om] [om_each] [om_classes]" >&2; exit 2 ;;
+  esac
 done
 command -v rt >/dev/null || { echo "om: the programs aren't built, and rt, which proves and builds them, isn't on the path" >&2; exit 1; }
 processors=$(nproc 2>/dev/null || echo 1)
@@ -167,10 +171,12 @@ build_apart() {
 
 # Proves the libraries in place, side by side. om_each stands on all that om stands on.
 prove_in_place() {
-  local top=om_each
-  [ $# -gt 1 ] || top=$1
-  sweep
-  attend all "$here/crates/$top" all check --jobs "$jobs" || fail failures
+  local program
+  for program in "$@"; do
+    [ "$program $*" != "om om om_each" ] || continue
+    sweep
+    attend all "$here/crates/$program" all check --jobs "$jobs" || fail failures
+  done
 }
 
 # Builds the programs in place, over libraries that are proved there, or whose changes rt proves now.
@@ -187,7 +193,7 @@ build_in_place() {
 
 crates=$(for program in "$@"; do crates_of "$program"; done | sort -u)
 count=$(wc -l <<<"$crates")
-unbuilt=$(while read -r crate; do [ -e "$here/crates/$crate/out/rlib/stamp" ] || echo "$crate"; done <<<"$crates" | grep -cvx -e om -e om_each)
+unbuilt=$(while read -r crate; do [ -e "$here/crates/$crate/out/rlib/stamp" ] || echo "$crate"; done <<<"$crates" | grep -cvx -e om -e om_each -e om_classes)
 if [ "$unbuilt" -le 2 ]; then
   echo "om: proving and building what has changed" >&2
   build_in_place "$@"

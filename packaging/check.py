@@ -146,9 +146,15 @@ def main():
                 expect("%s, a link to om-each" % it, run([it, "accept"], UNIFORM * 2, environment),
                        (0, b"accepted\n" * 2, b""))
             os.remove(link)
-            for file in ("man/man1/om.1", "man/man1/om-each.1", "bash-completion/completions/om",
-                         "bash-completion/completions/om-each", "zsh/site-functions/_om",
-                         "fish/vendor_completions.d/om.fish", "om/neighbours/om.py",
+            classes = os.path.join(where, "bin", "om-classes")
+            expect("om-classes in " + where, run([classes, "all", "--complete"], UNIFORM, environment),
+                   (1, b"refused list 4 missing 1 --0\n", b""))
+            expect("help of om-classes in " + where, run([classes, "help", "all"], b"", environment)[2].count(b"\n"), 4)
+            for file in ("man/man1/om.1", "man/man1/om-each.1", "man/man1/om-classes.1",
+                         "bash-completion/completions/om", "bash-completion/completions/om-each",
+                         "bash-completion/completions/om-classes", "zsh/site-functions/_om",
+                         "fish/vendor_completions.d/om.fish", "fish/vendor_completions.d/om-classes.fish",
+                         "om/neighbours/om.py",
                          "om/neighbours/python/pyproject.toml", "doc/om/README.md", "doc/om/docs/FORMATS.md",
                          "doc/om/pictures/non-pappus.svg", "doc/om/PROVED"):
                 expect("%s in %s" % (file, where), os.path.isfile(os.path.join(where, "share", file)), True)

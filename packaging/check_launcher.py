@@ -22,6 +22,8 @@ import time
 TOP = os.path.dirname(os.path.dirname(os.path.abspath(__file__)))
 TALLY = {True: 0, False: 0}
 UNIFORM = b"om 1\nchirotope 3 4\n++++\nend\n"
+# the least uniform chirotope on four elements, which is alone in its class
+CHAIN = b"om 1\nchirotope 3 4\n----\nend\n"
 # it proves crates, but the one that FAILS names, notes each call in a file, and gives a program where there is none; with
 # WAITS it goes on for twenty seconds, and SIGTERM doesn't end it
 STAND_IN = """#!/bin/sh
@@ -92,9 +94,9 @@ def bytes_of(*path):
         return file.read()
 
 
-def commands(tree):
-    """The commands of the table, each with what it answers, what its words are, and an example."""
-    return [block.strip().split("\n") for block in bytes_of(tree, "completions", "commands.txt").decode().split("\n\n")
+def commands(tree, table="commands.txt"):
+    """The commands of a table, each with what it answers, what its words are, and an example."""
+    return [block.strip().split("\n") for block in bytes_of(tree, "completions", table).decode().split("\n\n")
             if not block.startswith("#")]
 
 
@@ -124,6 +126,15 @@ def hints(tree):
          b"om: documents come from standard input: om convert circuits < examples/pappus.om\n"),
         (["./om", "examples/pappus.om"], b"",
          b"om: documents come from standard input: om accept < examples/pappus.om\n"),
+        (["./om-classes", "uniform"], CHAIN, b""),
+        (["./om-classes", "uniform", "--complete"], UNIFORM, b""),
+        (["./om-classes"], b"", b"  om-classes all [--complete]     whether lists on 4, 5, and so on elements have"),
+        (["./om-classes", "unifrom"], b"", b"om-classes: unifrom is no command; the nearest is\n  om-classes uniform "),
+        (["./om-classes", "all", "--exact"], b"", b"om-classes: the words aren't right; the command is\n  om-classes all "),
+        (["./om-classes", "all", "examples/classes.om"], b"",
+         b"om-classes: documents come from standard input: om-classes all < examples/classes.om\n"),
+        (["./om-classes", "all", "examples/pappus.om", "examples/loops.om"], b"",
+         b"om-classes: documents come from standard input, all lists in one stream: cat FILES | om-classes all\n"),
         (["./om-each", "accept"], UNIFORM * 2, b""),
         (["./om-each", "dul"], b"", b"om-each: dul is no command; the nearest is\n  om-each dual  "),
         (["./om-each", "make", "7"], b"", b"om-each: make is no command; these are\n  om-each accept\n"),
@@ -158,13 +169,16 @@ def hints(tree):
                 expect("%s %s: the words and an example" % (launcher, words), plain[2].decode().count("\n"), 4)
                 expect("%s %s: its words" % (launcher, words),
                        all(text in plain[2].decode() for text in wanted[:3]), True)
-    with open(os.path.join(tree, "man", "om.1")) as file:
-        synopsis = re.findall(r"^\.B om (.*)$", file.read().partition(".SH DESCRIPTION")[0], re.M)
-    expect("the synopsis of the manual page", [re.sub(r"\\f[A-Z]", "", it).replace("\\-", "-") for it in synopsis],
-           [it[0] for it in commands(tree)])
-    for text, _, _, line in commands(tree):
-        code, output, _ = run(tree, ["sh", "-c", "./" + line])
-        expect("the example of %s" % text, (code, len(output) > 6, line.split()[1]), (0, True, text.split()[0]))
+    for name, table in ("om", "commands.txt"), ("om-classes", "classes.txt"):
+        page = bytes_of(tree, "man", name + ".1").decode().partition(".SH DESCRIPTION")[0].replace("\\-", "-")
+        synopsis = [re.sub(r"\\f[A-Z]", "", it) for it in re.findall(r"^\.B %s (.*)$" % name, page, re.M)]
+        expect("the synopsis of %s.1" % name, synopsis, [it[0] for it in commands(tree, table)])
+        for text, answers, numbers, line in commands(tree, table):
+            code, output, _ = run(tree, ["sh", "-c", "./" + line])
+            expect("the example of %s" % text, (code, len(output) > 6, line.split()[1]), (0, True, text.split()[0]))
+            said = run(tree, ["./" + name, "help", text.split()[0]])[2].decode()
+            expect("help of %s %s" % (name, text), said, "  %s %s\n%s" % (name, text, "".join(
+                "      %s\n" % it for it in (answers, numbers, line))))
     folder = os.open(tree, os.O_RDONLY)
     expect("a folder", run_on_terminal(tree, ["./om", "accept"], stdin=folder)[::2],
            (4, b"om: standard input is a folder, and can't be read; documents are read from a file: "
@@ -214,7 +228,8 @@ def completes():
                "source completions/om.bash" + ready)
     rows = [("om dec\t", "om decide "), ("om decide --box=\t", "--box=6"), ("om decide --st\t", "--steps="),
             ("om flip 18 \t", "19"), ("om accept < examples/pappus-po\t", "examples/pappus-points.om"),
-            ("om-each upg\t", "om-each upgrade ")]
+            ("om-each upg\t", "om-each upgrade "), ("om-classes uni\t", "om-classes uniform "),
+            ("om-classes all --co\t", "om-classes all --complete ")]
     for shell, setup in ((["bash", "--norc", "--noprofile", "-i"], bash), (["zsh", "-f", "-i"], zsh),
                          (["zsh", "-f", "-i"], as_bash)):
         if not shutil.which(shell[0]):
@@ -225,9 +240,11 @@ def completes():
                 continue  # files are zsh's own there
             shown = seen(shell, setup, typed, wanted)
             expect("%s, %r: %s" % (shell[0], typed, shown), (wanted in shown, "not found" in shown), (True, False))
-    script = ('%ssource completions/om.bash; COMP_WORDS=("$@"); COMP_CWORD=$(($# - 1)); _om "$1"; '
-              'printf "%%s " "${COMPREPLY[@]}"')
-    for words, wanted in ((["om", ""], "accept member"), (["om-each", "m"], "member mutations "),
+    script = ('%ssource completions/om.bash; COMP_WORDS=("$@"); COMP_CWORD=$(($# - 1)); '
+              'case $1 in om-classes) _om_classes ;; *) _om "$1" ;; esac; printf "%%s " "${COMPREPLY[@]}"')
+    for words, wanted in ((["om-classes", ""], "all uniform"), (["om-classes", "all", ""], "--complete "),
+                          (["om-classes", "x", ""], " "),
+                          (["om", ""], "accept member"), (["om-each", "m"], "member mutations "),
                           (["om", "m"], "member mutations make "), (["om", "decide", "--box", "="], "6 "),
                           (["om", "decide", "--box", "=", "7"], " "),
                           (["om", "decide", "--box="], "--box=6 "), (["om", "flip", "18", ""], "19 20 "),
@@ -242,7 +259,8 @@ def completes():
         print("fish isn't installed: its completions are not looked at")
         return
     for typed, wanted in (("om dec", "decide\t"), ("om decide --box=", "--box=6\n"), ("om flip 18 ", "19\n20\n"),
-                          ("om accept ", ""), ("om-each ma", "mutations"),
+                          ("om accept ", ""), ("om-each ma", "mutations"), ("om-classes uni", "uniform\t"),
+                          ("om-classes all --c", "--complete\n"),
                           ("om accept < examples/pappus-po", "examples/")):
         ended = subprocess.run(["fish", "-N", "-c", 'source completions/om.fish; complete -C "%s"' % typed], cwd=TOP,
                                capture_output=True, text=True)
@@ -407,13 +425,13 @@ def main():
     with tempfile.TemporaryDirectory() as room:
         tree = os.path.join(room, "tree")
         os.makedirs(tree)
-        for name in "om", "om-each", "VERSION", "man", "completions", "examples", "packaging":
+        for name in "om", "om-each", "om-classes", "VERSION", "man", "completions", "examples", "packaging":
             path = os.path.join(TOP, name)
             if os.path.isdir(path):
                 shutil.copytree(path, os.path.join(tree, name))
             else:
                 shutil.copy(path, tree, follow_symlinks=False)
-        for name in "om", "om_each":
+        for name in "om", "om_each", "om_classes":
             os.makedirs(os.path.join(tree, "crates", name, "out"))
             shutil.copy(os.path.join(TOP, "crates", name, "out", name), os.path.join(tree, "crates", name, "out"))
         hints(tree)

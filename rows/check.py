@@ -6,14 +6,14 @@ its output, with ` | ` between two. In the input and the output a `/` stands for
 the word `@`, stand for a text that a line `@ = TEXT` before the row gives; `@ = TEXT * N` is N times this text, and
 `@ = halves N` is what `halves` gives for N. `\\t` is a tab, `\\r` a carriage return, `\\x0b` the byte of this number,
 and `\\u{feff}` this code point in UTF-8. If the input is `unread`, each read would fail, and the output `nothing` is
-an empty one. A line that begins with `# ` is a remark. `streams.txt` has runs of om_each, and each other table has
-runs of om.
+an empty one. A line that begins with `# ` is a remark. `streams.txt` has runs of om_each, `classes.txt` of om_classes,
+and each other table of om.
 
 After the tables come runs that read a text which breaks off, runs whose output has too little room, a few answers of
 which parts are compared, lists and refusals that are compared with what the axioms give, and the runs of large.py. For
 om_each there are the documents of all tables in streams, and a conversation. Each program also gets words that don't
-reach it. Each program that is named makes all these runs, those of om_each if its name has `each` in it. If none is
-named, both built programs do, and those of the second compiler if they are there.
+reach it. Each program that is named makes all these runs, those of om_each or om_classes if its name has `each` or
+`classes` in it. If none is named, all built programs do, and those of the second compiler if they are there.
 The last line is 'rows: N passed, M failed', and the exit code is 1 if one failed.
 """
 import glob
@@ -39,8 +39,8 @@ sys.path.insert(1, os.path.join(TOP, "neighbours"))
 
 from om import cut  # noqa: E402
 
-BUILT = [os.path.join(TOP, "crates", name, "out", name) for name in ("om", "om_each")]
-STREAMS = os.path.join(HERE, "streams.txt")
+BUILT = [os.path.join(TOP, "crates", name, "out", name) for name in ("om", "om_each", "om_classes")]
+STREAMS, CLASSES = os.path.join(HERE, "streams.txt"), os.path.join(HERE, "classes.txt")
 UNIFORM = b"om 1\nchirotope 3 4\n++++\nend\n"
 # bytes of memory for a run in little of it
 LITTLE = 16 << 20
@@ -147,7 +147,7 @@ class Tally:
 
 def tables():
     """The tables of om."""
-    return [it for it in sorted(glob.glob(os.path.join(HERE, "*.txt"))) if it != STREAMS]
+    return [it for it in sorted(glob.glob(os.path.join(HERE, "*.txt"))) if it not in (STREAMS, CLASSES)]
 
 
 def run_tables(tally, program, paths):
@@ -452,12 +452,28 @@ def run_conversation(tally, program):
     tally.expect("a conversation", found, [good, bad, good, good, good, b"", 1])
 
 
+def run_class_faults(tally, program):
+    """A read that fails after each byte of the lists on four and five elements, and rooms that end after each byte of
+    the answer. The line of a list is written once the first document of the next one is whole."""
+    with open(os.path.join(TOP, "examples", "classes.om"), "rb") as file:
+        text = file.read()
+    output = b"exact 4 2\nexact 5 4\n"
+    for read in range(len(text) + 1):
+        whole = text[:text.rfind(b"\n", 0, read) + 1]
+        documents = sum(closed for _, closed in cut(io.BytesIO(whole)))
+        tally.expect("a read that fails behind %d bytes of lists" % read, run_cut_off(program, ["all"], text[:read]),
+                     (4, output[:10] if documents > 2 else b""))
+    for room in range(len(output) + 1):
+        found = run_in_room(program, ["all"], text, room)
+        tally.expect("lists in a room of %d bytes" % room, found, (0 if room == len(output) else 5, output[:room]))
+
+
 def main():
     programs = [os.path.abspath(it) for it in sys.argv[1:]]
     if not programs:
         # the launchers build what isn't built
-        for launcher in "om", "om-each":
-            subprocess.run([os.path.join(TOP, launcher), "accept"], stdin=subprocess.DEVNULL, stdout=subprocess.DEVNULL)
+        for launcher, word in ("om", "accept"), ("om-each", "accept"), ("om-classes", "all"):
+            subprocess.run([os.path.join(TOP, launcher), word], stdin=subprocess.DEVNULL, stdout=subprocess.DEVNULL)
         programs = [it for built in BUILT for it in (built, built + ".by-rattle") if os.path.exists(it)]
     tally = Tally()
     listed = [(old, list(extensions(old))) for old in map("".join, itertools.product("-+", repeat=4))]
@@ -470,6 +486,10 @@ def main():
             run_large_streams(tally, program, runs)
             run_stream_faults(tally, program)
             run_conversation(tally, program)
+            continue
+        if "classes" in os.path.basename(program):
+            run_tables(tally, program, [CLASSES])
+            run_class_faults(tally, program)
             continue
         run_tables(tally, program, tables())
         run_faults(tally, program)
