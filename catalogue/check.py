@@ -90,6 +90,12 @@ BAD = [
     (["realize"], CUT, "document 2, line 8: missing", False),
     (["realize"], BROKEN, "document 1: om_each answers `refused relation", False),
     (["realize"], THREE + BROKEN + CUT, "document 2: om_each answers `refused relation", False),
+    (["least", "0"], FOUR, "a number of processes", False),
+    (["least", "2", "2"], FOUR, "a number of processes", False),
+    (["least"], CUT, "document 2, line 8: missing", False),
+    (["least", "2"], THREE + FOUR + BROKEN, "document 3: om_classes answers `refused axioms`", False),
+    (["least"], FOUR + VECTORS, "document 1: a claim", False),
+    (["least"], b"", "the input has no document", False),
     (["tally", "x"], b"", "its words are", False),
     (["tally", "--sum"], b"000000 1 1 0 0 0 0 1 1 0123456789abcdef\n", "the first line", False),
     (["tally", "--sum"], b"# all 9\n000000 2 1 0 0 0 0 1 1 0123456789abcdef\n", "line 2", False),
@@ -114,7 +120,7 @@ BAD = [
 
 # what the messages on wrong words say, which end with 2
 WRONG_WORDS = ("permutation", "--colours", "no words", "--uniform", "a schedule has", "the word", "decide doesn't take",
-               "its words are")
+               "its words are", "a number of processes")
 
 
 def run(words, data=b"", environment=None):
@@ -345,12 +351,33 @@ def stopped_and_taken_over():
             compare("%s of a run that is taken over" % name, bytes_of(first, name), bytes_of(second, name))
         compare("the tally of a run with a tally", bytes_of(first, "all-5.tally"), bytes_of(third, "all-5.tally"))
         compare("claims of a run with a tally", False, os.path.exists(os.path.join(third, "all-5.claims")))
+        shown(folder, first, done.stdout)
         by_array_jobs(folder, first, done.stdout)
         other_options(first)
         stopped_by_hand(os.path.join(folder, "fourth"))
     for words in (["classify"], ["classify", "x", "some", "5"], ["classify", "x", "all", "2"]):
         done = run(words)
         compare(" ".join(words), (2, b"", True), (done.returncode, done.stdout, done.stderr.startswith(b"classify: ")))
+
+
+def shown(folder, first, tables):
+    """The lists of a classification are complete, and those of least maps exact. A list without one of its classes is
+    refused, and leaves no result."""
+    compare("what is shown at the end", b"complete 4 2\ncomplete 5 4\n", tables[-26:])
+    done = run(["classify", first, "all", "5"], environment={"EXACT": "yes"})
+    with open(os.path.join(os.path.dirname(HERE), "examples", "classes.om"), "rb") as file:
+        least = file.read()
+    found = done.returncode, done.stdout[-20:], bytes_of(first, "all-4.least") + bytes_of(first, "all-5.least")
+    compare("exact lists", (0, b"exact 4 2\nexact 5 4\n", least), found)
+    wrong = os.path.join(folder, "wrong")
+    shutil.copytree(first, wrong)
+    os.remove(os.path.join(wrong, "all-5.exact"))
+    with open(os.path.join(wrong, "all-5.least"), "wb") as file:
+        file.write(bytes_of(first, "all-5.least").partition(b"end\n")[2])
+    done = run(["classify", wrong, "all", "5"], environment={"EXACT": "yes"})
+    said = b"classify: om_classes says of the lists: refused list 5 missing 1 ------\n"
+    compare("a list without its first class", (1, True, False),
+            (done.returncode, done.stderr.endswith(said), os.path.exists(os.path.join(wrong, "all-5.exact"))))
 
 
 def by_array_jobs(folder, first, tables):
@@ -431,6 +458,9 @@ def stopped_by_hand(folder):
         compare("classify, stopped at %s" % stage, 130, process.returncode)
     done = run(["classify", folder, "uniform", "8"])
     compare("classify behind control-C", (0, True), (done.returncode, b"135 classes, 135 realizable" in done.stdout))
+    done = run(["classify", folder, "uniform", "8"], environment={"EXACT": "yes"})
+    compare("exact lists of uniform maps", (0, [b"exact 7 11", b"exact 8 135"]),
+            (done.returncode, done.stdout.splitlines()[-2:]))
 
 
 def answer_of(done):

@@ -152,9 +152,11 @@ def lots(items):
 
 
 class Conversation:
-    """`om_each`, or another program, with these words, kept open: it answers a document as soon as it has it."""
+    """`om_each` with these words, kept open: it answers a document as soon as it has it. Or another program, which ends
+    with its first refusal."""
 
     def __init__(self, *words, program=None):
+        self.ends_early = program is not None
         self.process = subprocess.Popen([program or om_each(), *words], stdin=subprocess.PIPE, stdout=subprocess.PIPE)
         for pipe in (self.process.stdin, self.process.stdout):
             try:
@@ -167,10 +169,15 @@ class Conversation:
         return self.ask_all([text], blocks)[0]
 
     def ask_all(self, texts, blocks):
-        """The answer to each document, in their order. They go out while answers come in, since a pipe holds little."""
+        """The answer to each document, in their order. They go out while answers come in, since a pipe holds little. A
+        program that ends with a refusal gives it as the last answer."""
         writer = threading.Thread(target=self.write, args=("".join(texts).encode(),), daemon=True)
         writer.start()
-        answers = [self.answer(blocks) for _ in texts]
+        answers = []
+        for _ in texts:
+            answers.append(self.answer(blocks))
+            if self.ends_early and not answers[-1].startswith(b"om"):
+                break
         writer.join()
         return answers
 
