@@ -1,3 +1,5 @@
+pub mod SignCases
+pub mod FirstNonzero
 pub mod SignLaws
 pub mod SignRanks
 pub mod Rings

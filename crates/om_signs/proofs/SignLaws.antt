@@ -1,42 +1,20 @@
--- The algebra of signs: the one home of its laws.
+-- The algebra of signs: the one home of its laws. Those on the cases of a sign and on the first nonzero one of two signs
+-- stand in files of their own, and are cited from here.
 --
 -- Main results: the laws of products, gathered in the ruleset `products`; a sign that is its own opposite is zero
--- (own_opposite); two nonzero signs are equal or opposite (equal_or_opposite); where the first nonzero one of two signs
--- comes from (first_nonzero_cases, first_of_two).
-use Rattle.std.proofs.Common.{refl, arith, inl, inr, sym, ap, ◌≡◌, ◌≢◌, ◌⊎◌, ◌∙◌}
+-- (own_opposite); two nonzero signs are equal or opposite (equal_or_opposite).
+use Rattle.std.proofs.Common.{refl, arith, inl, inr, ap, ◌≡◌, ◌≢◌, ◌⊎◌, ◌∙◌}
 use Rattle.om_signs.specs.declared.sign.Sign.{Sign}
 use Rattle.om_signs.specs.declared.sign.Sign.TheVariants.{Minus, Zero, Plus}
-use Rattle.om_signs.specs.Sign.{opposite, product, first_nonzero}
-
--- plus isn't zero, for laws that ask for a nonzero sign
-pub plus_nonzero : Plus ≢ Zero
-plus_nonzero e = cc
-
--- minus isn't zero, for laws that ask for a nonzero sign
-pub minus_nonzero : Minus ≢ Zero
-minus_nonzero e = cc
-
--- to refute an equation with zero on the left and plus on the right
-pub zero_not_plus : Zero ≢ Plus
-zero_not_plus e = cc
-
--- to refute an equation with zero on the left and minus on the right
-pub zero_not_minus : Zero ≢ Minus
-zero_not_minus e = cc
-
--- to refute an equation with plus on the left and minus on the right
-pub plus_not_minus : Plus ≢ Minus
-plus_not_minus e = cc
-
--- to refute an equation with minus on the left and plus on the right
-pub minus_not_plus : Minus ≢ Plus
-minus_not_plus e = cc
-
--- to tell two cases apart: a sign is zero, or it isn't
-pub zero_or_nonzero : (s : Sign) → (s ≡ Zero) ⊎ (s ≢ Zero)
-zero_or_nonzero Minus = inr minus_nonzero
-zero_or_nonzero Zero = inl refl
-zero_or_nonzero Plus = inr plus_nonzero
+use Rattle.om_signs.specs.Sign.{opposite, product}
+pub use Rattle.om_signs.proofs.SignCases.{plus_nonzero, minus_nonzero, zero_not_plus, zero_not_minus, plus_not_minus}
+pub use Rattle.om_signs.proofs.SignCases.{minus_not_plus, zero_or_nonzero, zero_if_neither, zero_not_nonzero}
+pub use Rattle.om_signs.proofs.SignCases.{same_or_different, minus_or_not, not_zero_and_minus, not_plus_and_minus}
+pub use Rattle.om_signs.proofs.SignCases.{plus_or_minus}
+pub use Rattle.om_signs.proofs.FirstNonzero.{first_nonzero-zero, first_nonzero_right, first_nonzero_left}
+pub use Rattle.om_signs.proofs.FirstNonzero.{first_nonzero_from_left, first_nonzero_from_right, nonzero_either}
+pub use Rattle.om_signs.proofs.FirstNonzero.{first_nonzero_cases, first_nonzero_zero, first_of_two}
+pub use Rattle.om_signs.proofs.FirstNonzero.{first_nonzero_either, product-first_nonzero}
 
 -- the two factors of a product may be exchanged
 pub product_comm : (s t : Sign) → product s t ≡ product t s
@@ -122,19 +100,9 @@ zero_from_opposite s e = grind arith
 pub zero_if_opposite : (s t : Sign) → s ≡ opposite t → t ≡ Zero → s ≡ Zero
 zero_if_opposite s t e z = grind arith
 
--- a sign that is neither plus nor minus is zero
-pub zero_if_neither : (s : Sign) → s ≢ Plus → s ≢ Minus → s ≡ Zero
-zero_if_neither Minus p m = absurd (m refl)
-zero_if_neither Zero p m = refl
-zero_if_neither Plus p m = absurd (p refl)
-
 -- a sign that is its own opposite is zero
 pub own_opposite : (s : Sign) → s ≡ opposite s → s ≡ Zero
 own_opposite s e = grind arith
-
--- no sign is both zero and nonzero
-pub zero_not_nonzero : (s : Sign) → s ≡ Zero → s ≢ Zero → ⊥
-zero_not_nonzero s e n = n e
 
 -- if the opposite of a sign is nonzero, so is the sign
 pub nonzero_from_opposite : (t : Sign) → opposite t ≢ Zero → t ≢ Zero
@@ -157,22 +125,6 @@ equal_or_opposite Zero t m n = absurd (m refl)
 equal_or_opposite Plus Minus m n = inr refl
 equal_or_opposite Plus Zero m n = absurd (n refl)
 equal_or_opposite Plus Plus m n = inl refl
-
--- to tell two cases apart: two signs are equal, or they aren't
-pub same_or_different : (s t : Sign) → (s ≡ t) ⊎ (s ≢ t)
-same_or_different Minus Minus = inl refl
-same_or_different Minus Zero = inr (λ e. cc)
-same_or_different Minus Plus = inr (λ e. cc)
-same_or_different Zero Minus = inr (λ e. cc)
-same_or_different Zero Zero = inl refl
-same_or_different Zero Plus = inr (λ e. cc)
-same_or_different Plus Minus = inr (λ e. cc)
-same_or_different Plus Zero = inr (λ e. cc)
-same_or_different Plus Plus = inl refl
-
--- to tell two cases apart: a sign is minus, or it isn't
-pub minus_or_not : (s : Sign) → (s ≡ Minus) ⊎ (s ≢ Minus)
-minus_or_not s = same_or_different s Minus
 
 -- to tell two cases apart: a sign is the opposite of another, or it isn't
 pub opposite_or_not : (s t : Sign) → (s ≡ opposite t) ⊎ (s ≡ opposite t → ⊥)
@@ -202,65 +154,6 @@ nonzero_if_opposite s t e n = grind arith
 pub nonzero_of_opposite : (s t : Sign) → s ≡ opposite t → s ≢ Zero → t ≢ Zero
 nonzero_of_opposite s t e n = grind arith
 
--- no sign is both zero and minus
-pub not_zero_and_minus : (s : Sign) → s ≡ Zero → s ≡ Minus → ⊥
-not_zero_and_minus s a b = grind arith
-
--- no sign is both plus and minus
-pub not_plus_and_minus : (s : Sign) → s ≡ Plus → s ≡ Minus → ⊥
-not_plus_and_minus s a b = grind arith
-
--- the first nonzero one of a sign and zero is the sign, be it zero itself
-pub first_nonzero-zero : (s : Sign) → first_nonzero s Zero ≡ s
-first_nonzero-zero s = grind arith
-
--- the first nonzero one of two signs is the second one, if the first is zero
-pub first_nonzero_right : (s t : Sign) → s ≡ Zero → first_nonzero s t ≡ t
-first_nonzero_right s t e = grind arith
-
--- the first nonzero one of two signs is the first one, if that is nonzero
-pub first_nonzero_left : (s t : Sign) → s ≢ Zero → first_nonzero s t ≡ s
-first_nonzero_left s t n = grind arith
-
--- the first nonzero one of two signs isn't zero, if the first sign isn't
-pub first_nonzero_from_left : (s t : Sign) → s ≢ Zero → first_nonzero s t ≢ Zero
-first_nonzero_from_left s t n = grind arith
-
--- the first nonzero one of two signs isn't zero, if the second sign isn't
-pub first_nonzero_from_right : (s t : Sign) → t ≢ Zero → first_nonzero s t ≢ Zero
-first_nonzero_from_right s t n = grind arith
-
--- if the first nonzero one of two signs isn't zero, one of the two isn't
-pub nonzero_either : (s t : Sign) → first_nonzero s t ≢ Zero → (s ≢ Zero) ⊎ (t ≢ Zero)
-nonzero_either Minus t n = inl minus_nonzero
-nonzero_either Zero t n = inr n
-nonzero_either Plus t n = inl plus_nonzero
-
--- of two signs, not both zero, the first nonzero one: the first if it is nonzero, and else the second
-pub first_nonzero_cases : (s t : Sign) → first_nonzero s t ≢ Zero → ((s ≢ Zero) × (first_nonzero s t ≡ s))
-    ⊎ ((s ≡ Zero) × (t ≢ Zero) × (first_nonzero s t ≡ t))
-first_nonzero_cases Minus t n = inl (minus_nonzero, refl)
-first_nonzero_cases Zero t n = inr (refl, n, refl)
-first_nonzero_cases Plus t n = inl (plus_nonzero, refl)
-
--- if the first nonzero one of two signs is zero, both are zero
-pub first_nonzero_zero : (s t : Sign) → first_nonzero s t ≡ Zero → (s ≡ Zero) × (t ≡ Zero)
-first_nonzero_zero Minus t e = absurd (minus_nonzero e)
-first_nonzero_zero Zero t e = (refl, e)
-first_nonzero_zero Plus t e = absurd (plus_nonzero e)
-
--- a sign that is one of two, where the two are not opposite, is the first nonzero one
-pub first_of_two : (s t z : Sign) → z ≢ Zero → (z ≡ s) ⊎ (z ≡ t) → (s ≢ Zero → s ≡ opposite t → ⊥)
-    → z ≡ first_nonzero s t
-first_of_two s t z n (inl e) o = e ∙ sym (first_nonzero_left s t (λ q. n (e ∙ q)))
-first_of_two Minus Minus z n (inr e) o = e
-first_of_two Minus Zero z n (inr e) o = absurd (n e)
-first_of_two Minus Plus z n (inr e) o = absurd (o minus_nonzero refl)
-first_of_two Zero t z n (inr e) o = e
-first_of_two Plus Minus z n (inr e) o = absurd (o plus_nonzero refl)
-first_of_two Plus Zero z n (inr e) o = absurd (n e)
-first_of_two Plus Plus z n (inr e) o = e
-
 -- no sign is both equal and opposite to a nonzero one
 pub equal_not_opposite : (s t : Sign) → s ≡ t → s ≡ opposite t → t ≢ Zero → ⊥
 equal_not_opposite s t a b n = grind arith
@@ -272,18 +165,6 @@ opposite_swap s t e = grind arith
 -- if the opposite of s is t, then s is the opposite of t
 pub opposite_back : (s t : Sign) → opposite s ≡ t → s ≡ opposite t
 opposite_back s t e = grind arith
-
--- the first nonzero one of two signs is one of the two
-pub first_nonzero_either : (s t : Sign) → (first_nonzero s t ≡ s) ⊎ (first_nonzero s t ≡ t)
-first_nonzero_either Minus t = inl refl
-first_nonzero_either Zero t = inr refl
-first_nonzero_either Plus t = inl refl
-
--- a nonzero sign is plus or minus
-pub plus_or_minus : (s : Sign) → s ≢ Zero → (s ≡ Plus) ⊎ (s ≡ Minus)
-plus_or_minus Minus n = inr refl
-plus_or_minus Zero n = absurd (n refl)
-plus_or_minus Plus n = inl refl
 
 -- if a product isn't zero, its left factor isn't
 pub left_factor_nonzero : (s t : Sign) → product s t ≢ Zero → s ≢ Zero
@@ -348,11 +229,6 @@ opposite_if_product_minus s t e = grind arith
 -- the product of opposite signs is minus, if they are nonzero
 pub product_minus_if_opposite : (s t : Sign) → s ≢ Zero → s ≡ opposite t → product s t ≡ Minus
 product_minus_if_opposite s t n e = grind arith
-
--- a factor is multiplied into the first nonzero one of two signs
-pub product-first_nonzero : (s t u : Sign) → product s (first_nonzero t u)
-    ≡ first_nonzero (product s t) (product s u)
-product-first_nonzero s t u = grind arith
 
 -- the product of the opposites of two signs is that of the signs
 pub product_opposites : (s t : Sign) → product (opposite s) (opposite t) ≡ product s t
