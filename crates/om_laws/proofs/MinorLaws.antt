@@ -29,17 +29,10 @@ use Rattle.om_laws.proofs.PairCovectors.{covector_same}
 use Rattle.om_laws.specs.Minors.{skip, deletion, contraction, IsAvoided, IsCovectorWithout, IsZeroCovectorWithout}
 use Rattle.om_laws.specs.Parallel.{IsLoop, IsColoop, IsInBase}
 use Rattle.om_laws.specs.Circuits.{IsCircuit}
+pub use Rattle.om_signs.proofs.Numbers.{skip_below, skip_above}
 
 abbrev pub unskip : ℕ → ℕ → ℕ
 unskip e g = cond (nat_lt g e) g (g - 1)
-
--- the numbering of the elements other than e leaves the numbers below e as they are
-pub skip_below : (e p : ℕ) → p < e → skip e p ≡ p
-skip_below e p l = rw (lt-ltb p e l) refl
-
--- the numbering of the elements other than e moves the numbers from e on up by one
-pub skip_above : (e p : ℕ) → e ≤ p → skip e p ≡ p + 1
-skip_above e p l = rw (le-ltb p e l) refl
 
 -- the numbering of the elements other than e never gives e
 pub skip_other : (e p : ℕ) → skip e p ≢ e

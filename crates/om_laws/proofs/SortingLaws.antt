@@ -15,6 +15,7 @@ use Rattle.om_laws.specs.Members.{IsMember, IsDistinct}
 use Rattle.om_laws.specs.Tuples.{IsAlternating, before_sign, sort_sign, insert, sorted, value}
 use Rattle.om_laws.specs.Sorting.{IsIncreasing}
 use Rattle.om_laws.proofs.TupleLaws.{neighbours_zero}
+pub use Rattle.om_signs.proofs.Numbers.{increasing_tail}
 
 -- no number is above the next
 abbrev pub IsRising : List ℕ → Type 0
@@ -106,10 +107,6 @@ increasing_head x (y ∷ ys) i = (i.0, below x y ys i.0 (increasing_head y ys i.
     below : (x y : ℕ) (ys : List ℕ) → x < y → IsAboveEach y ys → IsAboveEach x ys
     below x y [] l a = tt
     below x y (z ∷ zs) l a = let k = a.0 in (omega (arith, l, k), below x y zs l a.1)
-
-pub increasing_tail : (x : ℕ) (xs : List ℕ) → IsIncreasing (x ∷ xs) → IsIncreasing xs
-increasing_tail x [] i = tt
-increasing_tail x (y ∷ ys) i = i.1
 
 not_member : (x : ℕ) (xs : List ℕ) → IsAboveEach x xs → IsMember x xs → ⊥
 not_member x [] a m = m

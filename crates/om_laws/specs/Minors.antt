@@ -1,17 +1,14 @@
 -- Deletion and contraction of one element, with the later elements moved down by one.
 --
 -- Reference: Björner, Las Vergnas, Sturmfels, White and Ziegler, Oriented Matroids, chapters 3 and 4.
-use Rattle.std.specs.Prelude.{ℕ, ◌≡◌, ◌+◌, List, [], ◌∷◌, ◌++◌, map, cond, nat_lt}
+use Rattle.std.specs.Prelude.{ℕ, ◌≡◌, List, [], ◌∷◌, ◌++◌, map}
 use Rattle.om_signs.specs.declared.sign.Sign.{Sign}
 use Rattle.om_signs.specs.declared.sign.Sign.TheVariants.{Zero}
 use Rattle.om_laws.specs.Members.{IsMember}
 use Rattle.om_laws.specs.Vectors.{SignVector}
 use Rattle.om_laws.specs.Bases.{IsBase}
 use Rattle.om_laws.specs.Covectors.{IsCovector}
-
--- the elements other than e, numbered from 1 on
-abbrev pub skip : ℕ → ℕ → ℕ
-skip e p = cond (nat_lt p e) p (p + 1)
+pub use Rattle.om_signs.specs.Numbers.{skip}
 
 -- the value of the renamed tuple followed by the list q
 abbrev pub pullback : (List ℕ → Sign) → (ℕ → ℕ) → List ℕ → List ℕ → Sign

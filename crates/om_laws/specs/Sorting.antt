@@ -5,12 +5,7 @@ use Rattle.std.specs.Prelude.{ℕ, suc, ◌≡◌, ◌<◌, ◌≤◌, List, [],
 use Rattle.om_signs.specs.declared.sign.Sign.{Sign}
 use Rattle.om_signs.specs.declared.sign.Sign.TheVariants.{Zero}
 use Rattle.om_laws.specs.Tuples.{value}
-
--- each number is below the next
-abbrev pub IsIncreasing : List ℕ → Type 0
-IsIncreasing [] = Unit {0}
-IsIncreasing (x ∷ []) = Unit {0}
-IsIncreasing (x ∷ y ∷ zs) = (x < y) × IsIncreasing (y ∷ zs)
+pub use Rattle.om_signs.specs.Numbers.{IsIncreasing}
 
 -- an element of 1 to n
 abbrev pub IsElement : ℕ → ℕ → Type 0

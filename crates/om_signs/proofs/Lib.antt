@@ -10,6 +10,7 @@ pub mod Order
 pub mod Orthogonality
 pub mod Views
 pub mod ListPlaces
+pub mod Numbers
 pub mod MadeVectors
 pub mod OnePlace
 pub mod PairTests

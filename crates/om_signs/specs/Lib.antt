@@ -1,5 +1,6 @@
 pub mod Coordinates
 pub mod Masks
+pub mod Numbers
 pub mod Order
 pub mod OrderLaws
 pub mod Sign

@@ -9,6 +9,7 @@ use Rattle.std.proofs.lemmas.List.{length-append, length-map, get_or_append_left
 use Rattle.std.proofs.lemmas.Bool.{cases_eq, cases_lt, eq-eqb, ne_eqb}
 use Rattle.om_subsets.specs.Subsets.{choose, subsets_from, rank_from, rank_of, IsSubsetFrom, IsMember, IsTriple}
 use Rattle.om_subsets.specs.Lists.{IsIncreasing, IsBefore}
+pub use Rattle.om_signs.proofs.Numbers.{increasing_tail}
 
 -- there are as many increasing lists of r of m numbers as ways to choose r of m
 pub length-subsets_from : (low m r : ℕ) → length (subsets_from low m r) ≡ choose m r
@@ -183,11 +184,6 @@ increasing low zero (x ∷ xs) h = absurd h
 increasing low (suc m) (x ∷ xs) (inl (e, h)) =
     cons_increasing x xs (λ f q. let b = members_from (low + 1) m f xs h q in omega arith) (increasing (low + 1) m xs h)
 increasing low (suc m) (x ∷ xs) (inr (n, h)) = increasing (low + 1) m (x ∷ xs) h
-
--- a list in which each number is below the next stays so without its first number
-pub increasing_tail : (x : ℕ) (xs : List ℕ) → IsIncreasing (x ∷ xs) → IsIncreasing xs
-increasing_tail x [] h = tt
-increasing_tail x (y ∷ ys) h = h.1
 
 -- if each number is below the next, the first is below every later one
 pub head_below : (x e : ℕ) (xs : List ℕ) → IsIncreasing (x ∷ xs) → IsMember e xs → x < e

@@ -1,32 +1,23 @@
 -- Sets with their elements from e on moved up by one.
 --
 -- Main results: the masks and members of such sets (spread_small, spread_code, skipped_members).
-use Rattle.std.specs.Prelude.{ℕ, ◌≡◌, ◌≢◌, ◌+◌, ◌-◌, ◌*◌, ◌/◌, ◌%◌, ◌<◌, ◌≤◌, ◌^◌, List, ◌∷◌, map, refl, bit_and, cond}
-use Rattle.std.specs.Prelude.{nat_lt}
+use Rattle.std.specs.Prelude.{ℕ, ◌≡◌, ◌≢◌, ◌+◌, ◌-◌, ◌*◌, ◌/◌, ◌%◌, ◌<◌, ◌≤◌, ◌^◌, List, ◌∷◌, map, refl, bit_and}
 use Rattle.std.specs.Int.{bit_at}
 use Rattle.std.proofs.Common.{zero, suc, sym, ◌∙◌, ap, inl, inr, arith, min, max, bit_or}
-use Rattle.std.proofs.lemmas.Bool.{cases_eq, eq-eqb, ne_eqb, lt-ltb, le-ltb}
+use Rattle.std.proofs.lemmas.Bool.{cases_eq, eq-eqb, ne_eqb}
 use Rattle.std.proofs.lemmas.Nat.{or_lt, and_le_l, pow-add, pow_pos}
 use Rattle.std.proofs.lemmas.Nat.Bits.{bit_at_lowest, bit_at-suc, bit_at-zero, bit_at-lt, bit_at_and, bit_at_or}
 use Rattle.std.proofs.lemmas.Nat.Bits.{bit_at_ones, bit_at_ones_above, bit_at_cat_low, bit_at_cat_high}
 use Rattle.std.proofs.Math.Nat.{div-mul-le_self, div-div-eq-div-mul, mod-eq_of_lt}
 use Rattle.std.proofs.Math.Pow.{pow_mono}
 use Rattle.om_signs.specs.declared.limits.TheConstants.{MAX_PLACES}
+pub use Rattle.om_signs.specs.Numbers.{skip}
 use Rattle.om_signs.proofs.Bits.{one_shl_32, pow-add_one}
+use Rattle.om_signs.proofs.Numbers.{skip_below, skip_above}
 use Rattle.om_subsets.specs.Members.{members, mask_of}
 use Rattle.om_subsets.specs.Subsets.{IsSubsetFrom}
 use Rattle.om_subsets.proofs.Edits.{members_same}
 use Rattle.om_subsets.proofs.Masks.{members-mask_of}
-
--- a number past e
-abbrev pub skip : ℕ → ℕ → ℕ
-skip e p = cond (nat_lt p e) p (p + 1)
-
-skip_below : (e p : ℕ) → p < e → skip e p ≡ p
-skip_below e p l = rw (lt-ltb p e l) refl
-
-skip_above : (e p : ℕ) → e ≤ p → skip e p ≡ p + 1
-skip_above e p l = rw (le-ltb p e l) refl
 
 -- ---- members
 

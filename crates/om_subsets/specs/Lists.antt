@@ -2,12 +2,7 @@
 -- definitions mean the same.
 use Rattle.std.specs.Prelude.{ℕ, ◌≡◌, ◌<◌, ◌≤◌, List, [], ◌∷◌, ◌⊎◌}
 use Rattle.om_subsets.specs.Subsets.{IsMember}
-
--- each number is below the next
-abbrev pub IsIncreasing : List ℕ → Type 0
-IsIncreasing [] = Unit {0}
-IsIncreasing (x ∷ []) = Unit {0}
-IsIncreasing (x ∷ y ∷ ys) = (x < y) × IsIncreasing (y ∷ ys)
+pub use Rattle.om_signs.specs.Numbers.{IsIncreasing}
 
 -- each number is from low to high
 abbrev pub IsWithin : ℕ → ℕ → List ℕ → Type 0
