@@ -70,8 +70,8 @@ impl Ord for Sign {
 
     ghost matches_partial_cmp = { λ s t i. Some (sign_order s t) };
 
-    ghost matches_eq = { λ s t. by_pairs (λ s t. equality.eq s t ≡ is_eq (sign_order s t)) s t refl refl refl refl refl refl refl refl
-        refl };
+    ghost matches_eq = { λ s t. by_pairs (λ s t. equality.eq s t ≡ is_eq (sign_order s t)) s t
+        refl refl refl refl refl refl refl refl refl };
 
     fn cmp(&self, other: &Sign) -> Ordering {
         (*self as u8).cmp(&(*other as u8))

@@ -236,8 +236,8 @@ impl PartialOrd for SignVec {
 
     ghost partial_cmp = { as_partial_cmp lexicographic };
 
-    ghost laws = { partial_order_from_agreeing_total lexicographic lexicographic-total (λ x y i. Some (lexicographic x y))
-        matches_eq };
+    ghost laws = { partial_order_from_agreeing_total lexicographic lexicographic-total
+        (λ x y i. Some (lexicographic x y)) matches_eq };
 
     fn partial_cmp(&self, other: &SignVec) -> Option<Ordering> {
         Some(self.cmp(other))
