@@ -2,7 +2,7 @@
 --
 -- Main definitions: form_of
 -- Main results: value_of_minors, less_minus, less_plus, less_zero, more_zero, falls, refuses_above, passed_above,
--- of_minors, tested
+-- of_minors, refused, tested
 use Rattle.std.proofs.Common.{ℕ, zero, suc, ◌≡◌, ◌≢◌, ◌+◌, ◌<◌, ◌↔◌, IsTrue, arith, sym, ap, subst}
 use Rattle.std.specs.Prelude.{ℤ, pos, negsuc, neg_ℤ, ◌+ℤ◌, ◌-ℤ◌, ◌*ℤ◌, ◌<ℤ◌, ◌≤ℤ◌}
 use Rattle.std.proofs.lemmas.Int.{ints}
@@ -83,13 +83,14 @@ passed_above box f v n l h next =
 
 -- ---- tests of the program
 
-pub of_minors : (a b : WholeVector) (l x y z t : ℤ) → x ≡ a.y *ℤ b.z -ℤ a.z *ℤ b.y → y ≡ a.z *ℤ b.x -ℤ a.x *ℤ b.z
-    → z ≡ a.x *ℤ b.y -ℤ a.y *ℤ b.x → t ≡ l → (v : WholeVector) → Refuses (record { x = x; y = y; z = z; least = t }) v
-    ↔ (triple_product a b v <ℤ l)
-of_minors a b l x y z t ex ey ez et v =
-    let P : ℤ → Type 0 = λ t. t <ℤ l in
-    let e = value_of_minors a b v l in
-    rw (ex, ey, ez, et) (λ h. subst P e h, λ h. subst P (sym e) h)
+-- the value of a form whose coefficients are the minors of two vectors
+pub of_minors : (a b v : WholeVector) (x y z : ℤ) → x ≡ a.y *ℤ b.z -ℤ a.z *ℤ b.y → y ≡ a.z *ℤ b.x -ℤ a.x *ℤ b.z
+    → z ≡ a.x *ℤ b.y -ℤ a.y *ℤ b.x → x *ℤ v.x +ℤ y *ℤ v.y +ℤ z *ℤ v.z ≡ triple_product a b v
+of_minors a b v x y z ex ey ez = rw (ex, ey, ez) (value_of_minors a b v (pos 0))
+
+-- a form refuses a vector exactly if its value there is less than its bound
+pub refused : (f : LinearForm) (v : WholeVector) (p l : ℤ) → value_at f v ≡ p → f.least ≡ l → Refuses f v ↔ (p <ℤ l)
+refused f v p l e el = rw (e, el) (λ h. h, λ h. h)
 
 pub tested : (f : LinearForm) (v : WholeVector) (p q r l : ℤ) → p ≡ f.x *ℤ v.x → q ≡ f.y *ℤ v.y → r ≡ f.z *ℤ v.z
     → l ≡ f.least → IsTrue (lt_z (p +ℤ q +ℤ r) l) ↔ Refuses f v

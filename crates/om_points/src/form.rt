@@ -9,6 +9,7 @@ ghost use Rattle.om_points.specs.Candidates.{greatest};
 use super::minors::{minor, mixed, opposite, term};
 use super::short_vector::ShortVector;
 use om_signs::Sign;
+use om_vectors::sign_of;
 use std::marker::Model;
 
 /// A linear form with a lower bound: it refuses the vectors at which its value is less than the bound.
@@ -45,9 +46,11 @@ impl Form {
         }
     }
 
-    /// The form that refuses a vector if its triple product with two given vectors is less than a number.
+    /// The form whose value at a vector is its triple product with two given vectors. It refuses the vector if that
+    /// is less than a number.
     fn of(a: ShortVector, b: ShortVector, least: i64) -> Form
         requires { IsMinor least }
+        ensures values { (v : WholeVector) → value_at result v ≡ triple_product a b v }
         ensures refuses { (v : WholeVector) → Refuses result v ↔ triple_product a b v <ℤ least }
         ensures minors { AreMinors result }
     {
@@ -203,6 +206,14 @@ fn same_way(a: Form, b: Form) -> bool {
         .wrapping_mul(b.x as i128)
         .wrapping_add((a.y as i128).wrapping_mul(b.y as i128))
         > 0
+}
+
+/// Whether the triple product of three vectors has this sign.
+pub(crate) fn has_sign(a: ShortVector, b: ShortVector, c: ShortVector, wanted: Sign) -> bool
+    ensures { IsTrue result ↔ (sign_of (triple_product a b c) ≡ wanted) }
+{
+    let product = Form::of(a, b, 0).value(c);
+    sign_of(i128::from(product)) == wanted
 }
 
 /// The form that refuses exactly the vectors whose triple product with two vectors doesn't have the required sign.

@@ -1,6 +1,6 @@
 use Rattle.std.proofs.Common.{◌∙◌}
 use Rattle.om_points.proofs.Codes.{short_back}
-use Rattle.om_points.proofs.Forms.{of_minors}
+use Rattle.om_points.proofs.Forms.{of_minors, refused}
 use Rattle.om_points.proofs.Sizes.{read_back, read_minor, minor_back}
 use Rattle.om_points.proofs.form.Form.of.Goals as goal
 
@@ -31,8 +31,8 @@ minor-requires-3 c =
       d = short_back c.y-3.result c.y-3.ensures.size;
     }
 
-pub returns-clause-refuses : goal.returns-clause-refuses
-returns-clause-refuses c = of_minors c.args.a c.args.b c.args.least _ _ _ _
+pub returns-clause-values : goal.returns-clause-values
+returns-clause-values c = λ v. of_minors c.args.a c.args.b v _ _ _
     (read_minor c.minor.result c.minor.ensures.size ∙ c.minor.ensures.value
     ∙ simp (
       read_back _ _ c.y.ensures.size c.y.ensures.value,
@@ -54,7 +54,9 @@ returns-clause-refuses c = of_minors c.args.a c.args.b c.args.least _ _ _ _
       read_back _ _ c.y-4.ensures.size c.y-4.ensures.value,
       read_back _ _ c.x-4.ensures.size c.x-4.ensures.value,
     ))
-    (read_minor c.args.least c.requires)
+
+pub returns-clause-refuses : goal.returns-clause-refuses
+returns-clause-refuses c = λ v. refused _ v _ _ (returns-clause-values c v) (read_minor c.args.least c.requires)
 
 pub returns-clause-minors : goal.returns-clause-minors
 returns-clause-minors c =
