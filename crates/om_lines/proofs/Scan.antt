@@ -4,7 +4,7 @@
 -- Main results: line_split, line_whole, feed_split, whole_split, comment_first, all_blank, no_word_found, word_found
 use Rattle.std.proofs.Common.{◌≡◌, ℕ, zero, suc, ◌+◌, ◌-◌, ◌<◌, ◌≤◌, List, [], ◌∷◌, ◌++◌, Bool, false, cond, not}
 use Rattle.std.proofs.Common.{length, take, drop, refl, sym, ap, ◌∙◌, arith, inl, inr, nat_eq, nat_lt}
-use Rattle.std.specs.Prelude.{Some, None, unwrap_or, filter}
+use Rattle.std.specs.Prelude.{Option, Some, None, unwrap_or, filter}
 use Rattle.std.specs.List.{position_or_len, list_all}
 use Rattle.std.proofs.lemmas.Bool.{lt-ltb, le-ltb, cases_lt, eqb-true, cases_Bool}
 use Rattle.std.proofs.lemmas.List.{take_rest, take_all}
@@ -18,13 +18,14 @@ position_le p (x ∷ xs) = elim (cases_Bool (p x)) [
   | inr n ↦ rw n (let i = position_le p xs in omega arith)
 ]
 
-pub position_or : (p : ℕ → Bool) (xs : List ℕ)
-    → unwrap_or (cond (nat_lt (position_or_len p xs) (length xs)) (Some (position_or_len p xs)) None) (length xs)
-    ≡ position_or_len p xs
-position_or p xs = elim (cases_lt (position_or_len p xs) (length xs)) [
+-- the position of the first hit, or the length, as the code has it
+pub position_or : (p : ℕ → Bool) (xs : List ℕ) (o : Option ℕ)
+    → o ≡ cond (nat_lt (position_or_len p xs) (length xs)) (Some (position_or_len p xs)) None
+    → unwrap_or o (length xs) ≡ position_or_len p xs
+position_or p xs o q = rw q (elim (cases_lt (position_or_len p xs) (length xs)) [
   | inl l ↦ rw (lt-ltb _ _ l) refl
   | inr g ↦ rw (le-ltb _ _ g) (let i = position_le p xs in omega arith)
-]
+])
 
 take_one : (k b : ℕ) (bs : List ℕ) → take (1 + k) (b ∷ bs) ≡ b ∷ take k bs
 take_one k b bs = let e : 1 + k ≡ suc k = omega arith in rw e refl

@@ -6,7 +6,7 @@
 
 ghost use Rattle.std.specs.Prelude.{◌≡◌, ◌+◌, ◌<◌, ◌≤◌, ◌∷◌, [], length, nat_eq, not, ◌||◌, MatchOption, IfSome};
 ghost use Rattle.std.specs.Prelude.{bytes_eq};
-ghost use Rattle.std.specs.List.{position, position_or_len, list_all};
+ghost use Rattle.std.specs.List.{position_or_len};
 ghost use Rattle.om_lines.specs.Lines.{lines, IsSplit, uncommented, runs, is_blank, has_any, is_line, end_line};
 
 /// Whether a word has these bytes.
@@ -16,19 +16,12 @@ pub fn same(word: &[u8], text: &[u8]) -> bool
     word == text
 }
 
-/// The index of the first byte with this value.
-fn byte_place(bytes: &[u8], byte: u8) -> Option<usize>
-    ensures { result ≡ position (λ b. nat_eq b byte) bytes.now }
-{
-    bytes.iter().position(|b| *b == byte)
-}
-
 /// How many bytes come before the first byte with this value.
 pub fn len_before(bytes: &[u8], byte: u8) -> usize
     ensures value { result ≡ position_or_len (λ b. nat_eq b byte) bytes.now }
     ensures within { result ≤ length bytes.now }
 {
-    byte_place(bytes, byte).unwrap_or(bytes.len())
+    bytes.iter().position(|b| *b == byte).unwrap_or(bytes.len())
 }
 
 /// The first line without its line feed, and the bytes after it. The bytes are not empty.
@@ -55,22 +48,11 @@ pub fn before_comment(line: &[u8]) -> &[u8]
     &line[..end]
 }
 
+/// Whether a byte is a space, a tab or a carriage return. Every other byte is part of a word.
 pub fn is_blank_byte(byte: u8) -> bool
     ensures { result ≡ is_blank byte }
 {
     byte == b' ' || byte == b'\t' || byte == b'\r'
-}
-
-fn full_place(line: &[u8]) -> Option<usize>
-    ensures { result ≡ position (λ b. not (is_blank b)) line.now }
-{
-    line.iter().position(|b| !is_blank_byte(*b))
-}
-
-fn blank_place(line: &[u8]) -> Option<usize>
-    ensures { result ≡ position is_blank line.now }
-{
-    line.iter().position(|b| is_blank_byte(*b))
 }
 
 /// The number of blanks that a line begins with.
@@ -78,7 +60,9 @@ fn blank_len(line: &[u8]) -> usize
     ensures value { result ≡ position_or_len (λ b. not (is_blank b)) line.now }
     ensures within { result ≤ length line.now }
 {
-    full_place(line).unwrap_or(line.len())
+    line.iter()
+        .position(|b| !is_blank_byte(*b))
+        .unwrap_or(line.len())
 }
 
 /// The number of bytes other than blanks that a line begins with.
@@ -86,7 +70,9 @@ fn word_len(line: &[u8]) -> usize
     ensures value { result ≡ position_or_len is_blank line.now }
     ensures within { result ≤ length line.now }
 {
-    blank_place(line).unwrap_or(line.len())
+    line.iter()
+        .position(|b| is_blank_byte(*b))
+        .unwrap_or(line.len())
 }
 
 /// The first word of a line without a comment, and what follows the word.
@@ -102,17 +88,11 @@ pub fn first_word(line: &[u8]) -> Option<(&[u8], &[u8])>
     Some((&rest[..end], &rest[end..]))
 }
 
-fn is_all_blank(line: &[u8]) -> bool
-    ensures { result ≡ list_all is_blank line.now }
-{
-    line.iter().all(|b| is_blank_byte(*b))
-}
-
 /// Whether a line without a comment has no words.
 pub fn has_no_words(line: &[u8]) -> bool
     ensures { result ≡ not (has_any (runs line.now)) }
 {
-    is_all_blank(line)
+    line.iter().all(|b| is_blank_byte(*b))
 }
 
 /// Whether a line without a comment has this word and no other.

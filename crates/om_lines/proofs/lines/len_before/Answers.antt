@@ -1,11 +1,13 @@
-use Rattle.std.proofs.Common.{length, ap, ◌∙◌}
-use Rattle.std.specs.Prelude.{unwrap_or}
+use Rattle.std.proofs.Common.{nat_eq, ◌∙◌, rules, tests}
+use Rattle.std.proofs.lemmas.Iterator.{YieldsList-from_slice}
+use Rattle.std.proofs.lemmas.Iterator.Search.{position_from_yields_List}
 use Rattle.om_lines.proofs.Scan.{position_or, position_le}
 use Rattle.om_lines.proofs.lines.len_before.Goals as goal
 
 pub returns-clause-value : goal.returns-clause-value
-returns-clause-value c = c.unwrap_or.ensures ∙ ap (λ o. unwrap_or o (length c.args.bytes.now)) c.byte_place.ensures
-    ∙ position_or _ c.args.bytes.now
+returns-clause-value c = c.unwrap_or.ensures ∙ position_or _ c.args.bytes.now c.position.result
+    (position_from_yields_List (λ b. nat_eq b c.args.byte) _ _ c.position.result c.position.ensures.ran
+    (YieldsList-from_slice c.args.bytes.now cc) (λ x b q k. search (rules, tests)))
 
 pub returns-clause-within : goal.returns-clause-within
 returns-clause-within c = rw (returns-clause-value c) (position_le _ c.args.bytes.now)
