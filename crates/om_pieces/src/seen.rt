@@ -4,6 +4,8 @@ ghost use Rattle.std.specs.Prelude.{◌≡◌};
 ghost use Rattle.om_pieces.specs.Making.{with_comment, with_blank, with_letter, seen_with};
 ghost use Rattle.om_pieces.specs.Making.{some_seen, end_seen, om_seen};
 
+use om_lines::lines::is_blank_byte;
+
 /// What was seen of a line so far. It is enough to decide whether the line has a word, is the word `end` alone, or
 /// begins with the word `om`.
 #[derive(Clone, Copy)]
@@ -39,7 +41,7 @@ impl Seen {
     {
         if byte == b'#' {
             self.with_comment()
-        } else if byte == b' ' || byte == b'\t' || byte == b'\r' {
+        } else if is_blank_byte(byte) {
             self.with_blank()
         } else {
             self.with_letter(byte)
