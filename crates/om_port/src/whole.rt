@@ -39,7 +39,7 @@ pub fn read_all<S: Source>(
 {
     let mut bytes = Vec::new(alloc);
     let mut buf = [0u8; PIECE];
-    for _turn in 0..limit + 1 {
+    loop {
         let room = limit + 1 - bytes.len();
         let piece = room.min(PIECE);
         match source.read(&mut buf[..piece]) {
@@ -55,8 +55,6 @@ pub fn read_all<S: Source>(
             }
         }
     }
-    // Not reached: each turn takes a byte or ends, and the turn that takes byte number `limit + 1` ends.
-    Err(ReadError::TooLong)
 }
 
 /// Writes all of the bytes, in order.
@@ -74,10 +72,7 @@ pub fn write_all<K: Sink>(sink: &mut K, bytes: &[u8]) -> Result<(), WriteFault>
     ensures later { K.faults sink.old ≤ K.faults sink.new }
 {
     let mut written = 0;
-    for _turn in 0..bytes.len() {
-        if written == bytes.len() {
-            return Ok(());
-        }
+    while written < bytes.len() {
         match sink.write(&bytes[written..]) {
             Ok(count) => written += count,
             Err(_) => return Err(WriteFault { written }),
