@@ -3,7 +3,7 @@
 -- Main results: one_listing, same_columns and one_end.
 use Rattle.std.specs.Prelude.{ℕ, ◌≡◌, ◌+◌, ◌-◌, ◌⊎◌, List, [], ◌∷◌}
 use Rattle.std.specs.List.{Contains}
-use Rattle.std.proofs.Common.{arith, sym, ◌∙◌, ap, subst, suc, refl, inl, inr, get_or}
+use Rattle.std.proofs.Common.{arith, sym, ◌∙◌, ap, subst, refl, inl, inr, get_or}
 use Rattle.std.proofs.lemmas.List.{ext_get_or}
 use Rattle.om_signs.proofs.Contained.{none_contained, contains_first, contains_later, first_or_later}
 use Rattle.om_chirotope.specs.Map.{SignMap}

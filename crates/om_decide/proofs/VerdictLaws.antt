@@ -163,11 +163,6 @@ counted_places m pivots ss counts all h =
     let e : length h.columns ≡ length ss = h.are.size ∙ ap length (one_listing m h.statements ss h.are.all all) in
     subst (λ k. All (λ c. IsPlace k c.column) counts) e n
 
-pub weights_size : (m : SignMap) (pivots : ℕ) (zs : List ℤ) → IsEndOf m pivots (outcome.Weights zs)
-    → length zs ≡ length (nonzero_brackets m)
-weights_size m pivots zs h = let e = (weights_columns m h.statements h.columns pivots zs h.are h.end).size in
-    omega arith
-
 pub nonrealizable_by : (m : SignMap) (b : Budgets) (ss : List Statement) (counts : List Count) (v : Verdict)
     → AreAll m ss → IsEndOf m b.pivots (outcome.Balanced counts) → v ≡ Nonrealizable (entries_of ss counts)
     → IsVerdictOf m b v

@@ -141,9 +141,7 @@ fn weighed(
     values: &List<i128>,
     unfound: Unfound,
 ) -> Result<Verdict, NoMemory>
-    requires rank { chi.now.rank ≡ 3 }
-    requires part { 3 ≤ chi.now.elements }
-    requires size { length values.now ≡ length (nonzero_brackets chi.now) }
+    requires { chi.now.rank ≡ 3 }
     ensures { IfOk result
         (λ verdict. verdict ≡ Verdict.Undecided (weights_on (nonzero_brackets chi.now) values.now) unfound) }
 {

@@ -1,6 +1,6 @@
 //! What the ends of the linear program stand for: entries of a certificate, and weights of brackets.
 
-ghost use Rattle.std.specs.Prelude.{◌≡◌, ◌≤◌, ◌<◌, ◌+◌, ℕ, length, All, IfOk};
+ghost use Rattle.std.specs.Prelude.{◌≡◌, length, All, IfOk};
 ghost use Rattle.om_rows.specs.Rows.{IsPlace};
 ghost use Rattle.om_certificate.specs.Weights.{nonzero_brackets};
 ghost use Rattle.om_decide.specs.Columns.{entries_of, weight_on, weights_on};
@@ -38,19 +38,13 @@ pub fn bracket_weights(
     chi: &Chirotope,
     values: &List<i128>,
 ) -> Result<List<Weight>, NoMemory>
-    requires rank { chi.now.rank ≡ 3 }
-    requires part { 3 ≤ chi.now.elements }
-    requires size { length values.now ≡ length (nonzero_brackets chi.now) }
+    requires { chi.now.rank ≡ 3 }
     ensures { IfOk result (λ weights. weights ≡ weights_on (nonzero_brackets chi.now) values.now) }
 {
-    let n = chi.elements();
     let mut weights = List::new(alloc);
-    let mut bracket = Subset::first(3, n);
-    for _place in 0..Subset::choose(n, 3) {
-        if is_nonzero(chi, bracket) {
-            weights.push(bracket_weight(bracket, values.at(weights.len())))?;
-        }
-        bracket = bracket.following();
+    let nonzero = Subset::all(3, chi.elements()).filter(|bracket| is_nonzero(chi, *bracket));
+    for (bracket, value) in nonzero.zip(values.as_slice().iter().copied()) {
+        weights.push(bracket_weight(bracket, value))?;
     }
     Ok(weights)
 }

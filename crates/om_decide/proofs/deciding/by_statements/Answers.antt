@@ -6,7 +6,7 @@ use Rattle.om_certificate.specs.declared.verdict.Verdict.TheVariants.{Nonrealiza
 use Rattle.om_certificate.specs.Weights.{nonzero_brackets}
 use Rattle.om_decide.specs.Columns.{entries_of, weights_on}
 use Rattle.om_decide.specs.Verdicts.{pivot_limit, width, IsVerdictOf}
-use Rattle.om_decide.proofs.VerdictLaws.{counted_places, weights_size, nonrealizable_by, undecided_by}
+use Rattle.om_decide.proofs.VerdictLaws.{counted_places, nonrealizable_by, undecided_by}
 use Rattle.om_decide.proofs.deciding.by_statements.Goals as goal
 
 pub balanced-requires : goal.balanced-requires
@@ -25,11 +25,6 @@ returns-in-Balanced c =
     (IsVerdictOf m c.args.budgets)
     (λ v e. nonrealizable_by m c.args.budgets ss c.in-Balanced.counts v c.requires.all end
     (e ∙ ap (λ cs. Nonrealizable (entries_of ss cs)) c.as_slice.ensures)) c.balanced.ensures
-
-pub weighed-requires-clause-size : goal.weighed-requires-clause-size
-weighed-requires-clause-size c =
-    weights_size c.args.chi.now c.args.budgets.pivots c.in-Weights.values
-    (subst (IsEndOf c.args.chi.now c.args.budgets.pivots) c.in-Weights.is c.in_ok-counts.ensures)
 
 pub returns-in-Weights : goal.returns-in-Weights
 returns-in-Weights c =

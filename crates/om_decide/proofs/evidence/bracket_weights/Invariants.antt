@@ -1,9 +1,8 @@
-use Rattle.om_subsets.proofs.Walks.{IsAt}
-use Rattle.om_decide.proofs.WeightLists.{AreWeightsTo}
+use Rattle.std.proofs.Common.{◌≡◌, map}
+use Rattle.om_decide.specs.Columns.{weight_on}
 use Rattle.om_decide.proofs.evidence.bracket_weights.Given as goal
 
-abbrev pub invariant-loop-place : goal.invariant-loop-place
-invariant-loop-place l = record {
-  weights : AreWeightsTo l.chi l.values l._place l.weights;
-  at : IsAt l.chi.elements 3 l._place l.bracket;
-}
+abbrev pub invariant-loop-bracket : goal.invariant-loop-bracket
+invariant-loop-bracket l = (goal.iterator-loop-bracket).can_next l.bracket-iterator
+    × (goal.iterator-loop-bracket).is_finite l.bracket-iterator
+    × (l.weights ≡ map (λ p. weight_on p.0.elements p.1) l.yielded)

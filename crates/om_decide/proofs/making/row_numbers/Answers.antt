@@ -1,60 +1,68 @@
-use Rattle.std.proofs.Common.{◌≡◌, ◌+◌, ◌<◌, ◌∙◌, refl, ap, sym, subst, arith}
+use Rattle.std.proofs.Common.{◌∙◌, refl, sym, subst, arith}
+use Rattle.std.proofs.lemmas.List.{length_push}
 use Rattle.om_subsets.specs.Subsets.{choose}
-use Rattle.om_subsets.proofs.Walks.{IsAt, at_first, at_next, list_at}
+use Rattle.om_subsets.proofs.SetChains.{all_sets_of, at_turn, number_at_end}
 use Rattle.om_certificate.proofs.Triples.{triples_room}
-use Rattle.om_decide.specs.Making.{AreRowsTo}
-use Rattle.om_decide.proofs.RowNumbers.{no_rows, one_more, after_nonzero, after_zero}
+use Rattle.om_decide.proofs.RowNumbers.{AreRowsBefore, no_rows, one_more, past_nonzero, past_zero}
 use Rattle.om_decide.proofs.making.row_numbers.Goals as goal
-use Rattle.om_decide.proofs.making.row_numbers.Goals.{then-is_nonzero, else-is_nonzero}
 
-pub loop-place-init : goal.loop-place-init
-loop-place-init c = record {
-  rows = subst (AreRowsTo c.args.chi.now 0) (sym c.new-rows.ensures) (no_rows c.args.chi.now);
-  next = refl;
-  few = omega arith;
-  at = subst (λ n. IsAt n 3 0 c.first-bracket.result) c.elements-n.ensures.value
-      (at_first c.elements-n.result 3 c.first-bracket.result c.first-bracket.ensures.n c.first-bracket.ensures.size
-      c.first-bracket.ensures.lawful c.first-bracket.ensures.place);
-}
+pub loop-bracket-init : goal.loop-bracket-init
+loop-bracket-init c = (tt, tt, no_rows c.args.chi.now c.new-rows.result c.new-rows.ensures)
+
+pub is_nonzero-requires : goal.is_nonzero-requires
+is_nonzero-requires c =
+    let turn =
+    at_turn c.args.chi.now.elements 3 _ _ _
+    (all_sets_of {r = 3} {q = 3} (c.into_iter-bracket-iterator.ensures.into_iter_gives
+    ∙ c.all-bracket-items.ensures.sets) c.elements.ensures.value refl) c.loop-bracket.yielded_by c.in-Some.is
+    c.next.ensures.steps in
+    record { rank = c.requires; n = turn.at.n_is; size = turn.at.size }
 
 pub overflow_add-next : goal.overflow_add-next
 overflow_add-next c =
-    let few = c.loop-place.invariant.few in
-    let below = c.loop-place-test.true in
-    let end = c.choose-place-end.ensures.value in
-    let room = triples_room c.elements-n.result c.elements-n.ensures.high in
-    omega (arith, few, below, end, room)
+    let turn =
+    at_turn c.elements.result 3 _ _ _
+    (c.into_iter-bracket-iterator.ensures.into_iter_gives ∙ c.all-bracket-items.ensures.sets)
+    c.loop-bracket.yielded_by c.in-Some.is c.next.ensures.steps in
+    omega (arith, turn.inside, c.loop-bracket.invariant.2.few, triples_room c.elements.result c.elements.ensures.high)
 
-pub loop-place-preserved : goal.loop-place-preserved
-loop-place-preserved c =
-    let m = c.args.chi.now in
-    let inv = c.loop-place.invariant in
-    let end : c.choose-place-end.result ≡ choose m.elements 3 = c.choose-place-end.ensures.value
-    ∙ ap (λ n. choose n 3) c.elements-n.ensures.value in
-    let below : c.loop-place._place < choose m.elements 3 = omega arith in
-    let here = list_at m.elements 3 c.loop-place._place c.loop-place.bracket below inv.at in
-    let rows : AreRowsTo m (c.loop-place._place + 1) c.push.new.self =
-    subst (AreRowsTo m (c.loop-place._place + 1)) (sym c.in_ok-push.ensures.ok)
-    (one_more m c.loop-place._place c.loop-place.rows c.loop-place.next inv.next inv.rows) in
-    let next : IsAt m.elements 3 (c.loop-place._place + 1) c.following-bracket.result =
-    at_next m.elements 3 c.loop-place._place c.loop-place.bracket c.following-bracket.result
-    c.following-bracket.ensures.n c.following-bracket.ensures.size c.following-bracket.ensures.lawful
-    c.following-bracket.ensures.place below inv.at in
-    elim c.if-is_nonzero.branch [
-      | then-is_nonzero w ↦ record {
-        rows = rows;
-        next = w.next-is ∙ ap (λ k. k + 1) inv.next
-            ∙ sym (after_nonzero m c.loop-place._place c.loop-place.bracket.elements below here
-            (sym c.is_nonzero.ensures ∙ w.if-is_nonzero.true));
-        few = (let f = inv.few in let e = w.next-is in omega (arith, e, f));
-        at = next;
-      }
-      | else-is_nonzero w ↦ record {
-        rows = rows;
-        next = w.next-is ∙ inv.next
-            ∙ sym (after_zero m c.loop-place._place c.loop-place.bracket.elements below here
-            (sym c.is_nonzero.ensures ∙ w.if-is_nonzero.false));
-        few = (let f = inv.few in let e = w.next-is in omega (arith, e, f));
-        at = next;
-      }
-    ]
+pub loop-bracket-preserved-then-is_nonzero : goal.loop-bracket-preserved-then-is_nonzero
+loop-bracket-preserved-then-is_nonzero c =
+    let turn =
+    at_turn c.args.chi.now.elements 3 _ _ _
+    (all_sets_of {r = 3} {q = 3} (c.into_iter-bracket-iterator.ensures.into_iter_gives
+    ∙ c.all-bracket-items.ensures.sets) c.elements.ensures.value refl) c.loop-bracket.yielded_by c.in-Some.is
+    c.next.ensures.steps in (
+      tt,
+      tt,
+      rw (length_push c.loop-bracket.yielded c.in-Some.bracket, c.in_ok-push.ensures.ok)
+          (past_nonzero _ _ _ _ _ c.loop-bracket.invariant.2 turn.inside turn.here
+          (sym c.is_nonzero.ensures ∙ c.if-is_nonzero.true)),
+    )
+
+pub loop-bracket-preserved : goal.loop-bracket-preserved
+loop-bracket-preserved c =
+    let turn =
+    at_turn c.args.chi.now.elements 3 _ _ _
+    (all_sets_of {r = 3} {q = 3} (c.into_iter-bracket-iterator.ensures.into_iter_gives
+    ∙ c.all-bracket-items.ensures.sets) c.elements.ensures.value refl) c.loop-bracket.yielded_by c.in-Some.is
+    c.next.ensures.steps in (
+      tt,
+      tt,
+      rw (length_push c.loop-bracket.yielded c.in-Some.bracket, c.in_ok-push.ensures.ok)
+          (past_zero _ _ _ _ _ c.loop-bracket.invariant.2 turn.inside turn.here
+          (sym c.is_nonzero.ensures ∙ c.if-is_nonzero.false)),
+    )
+
+pub returns : goal.returns
+returns c =
+    let all =
+    number_at_end c.args.chi.now.elements 3 _ _ _
+    (all_sets_of {r = 3} {q = 3} (c.into_iter-bracket-iterator.ensures.into_iter_gives
+    ∙ c.all-bracket-items.ensures.sets) c.elements.ensures.value refl) c.loop-bracket.yielded_by c.in-None.is
+    c.next.ensures.steps in
+    let rows = subst (λ k. AreRowsBefore c.args.chi.now k c.loop-bracket.rows c.loop-bracket.next) all
+    c.loop-bracket.invariant.2 in
+    rw (c.in_ok-push-2.ensures.ok)
+    (one_more c.args.chi.now (choose c.args.chi.now.elements 3) c.loop-bracket.rows c.loop-bracket.next rows.next
+    rows.rows)
