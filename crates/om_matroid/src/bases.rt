@@ -16,11 +16,8 @@ pub fn first_basis(chi: &Chirotope) -> Subset
     ensures first { IsFirstBasis chi.now result.elements }
 {
     let nothing = Subset::first(0, chi.elements());
-    match first_between(chi, nothing, nothing) {
-        Some(first) => first,
-        // some value of a chirotope isn't 0
-        None => unreachable!(),
-    }
+    // some value of a chirotope isn't 0
+    first_between(chi, nothing, nothing).unwrap()
 }
 
 /// The lexicographically first basis that contains an independent set. The set is taken from the elements of the
@@ -35,9 +32,6 @@ pub fn extend_to_basis(chi: &Chirotope, independent: Subset) -> Subset
     ensures first { IsFirstBasisWith chi.now independent.elements result.elements }
 {
     let nothing = Subset::first(0, chi.elements());
-    match first_between(chi, independent, nothing) {
-        Some(basis) => basis,
-        // an independent set is contained in some basis
-        None => unreachable!(),
-    }
+    // an independent set is contained in some basis
+    first_between(chi, independent, nothing).unwrap()
 }

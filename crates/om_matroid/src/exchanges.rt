@@ -35,11 +35,8 @@ pub fn exchange(chi: &Chirotope, b: Subset, c: Subset, e: u8) -> u8
     requires outside { IsMember e c.elements → ⊥ }
     ensures { IsLeastExchange chi.now b.elements c.elements e result }
 {
-    for f in 1..chi.elements() + 1 {
-        if is_exchange(chi, b, c, e, f) {
-            return f;
-        }
-    }
     // by exchange of bases, some element of c can take the place of e
-    unreachable!()
+    (1..chi.elements() + 1)
+        .find(|f| is_exchange(chi, b, c, e, *f))
+        .unwrap()
 }
