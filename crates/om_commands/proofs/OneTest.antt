@@ -1,6 +1,6 @@
--- The three-term test of a document ends a run in one way, and so does its upgrade, or its refusal.
+-- The three-term test of a document ends a run in one way, and so does what is held against the axioms first.
 --
--- Main results: refusals_determined, tests_determined, upgrades_determined.
+-- Main results: tests_determined, checked_determined.
 --
 -- Reference: Björner, Las Vergnas, Sturmfels, White and Ziegler, Oriented Matroids, chapter 3.
 use Rattle.std.specs.Prelude.{ℕ, ◌≡◌, ◌+◌, ◌<◌, List, length, refl}
@@ -19,11 +19,13 @@ use Rattle.om_document.specs.declared.document.Document.{Document}
 use Rattle.om_representation.specs.declared.document_refused.DocumentRefused.{DocumentRefused}
 use Rattle.om_representation.specs.Axioms.{IsRefused}
 use Rattle.om_representation.specs.RefusalLines.{refused_line}
+use Rattle.om_reply.specs.declared.answer.Answer.{Answer}
 use Rattle.om_reply.specs.Answers.{says}
 use Rattle.om_reply.specs.Determined.{AreAlike, IsDetermined}
 use Rattle.om_commands.specs.ThreeTermTests.{failure_line, IsFirstFailure, IsTestOfMap, fails, meets, IsThreeTermTest}
 use Rattle.om_commands.specs.ThreeTermTests.{of_map, refused, no_map}
-use Rattle.om_commands.specs.Upgrades as upgrade
+use Rattle.om_commands.specs.Checked.{IsChecked}
+use Rattle.om_commands.specs.Checked as checked
 use Rattle.om_reply.proofs.Alike.{both_say}
 use Rattle.om_representation.proofs.OneRefusal.{one_first, one_refused, not_refused}
 
@@ -141,9 +143,10 @@ tests_determined d a b (no_map none h) (of_map m x p t) = absurd (none m p)
 tests_determined d a b (no_map none h) (refused v other f) = absurd (not_refused d v h f)
 tests_determined d a b (no_map none h) (no_map other k) = (refl, refl)
 
--- all answers of `upgrade` to a document look alike
-pub upgrades_determined : (d : Document) → IsDetermined (upgrade.IsUpgrade d)
-upgrades_determined d a b (upgrade.refused v f) (upgrade.refused w g) = refusals_determined d v w f g
-upgrades_determined d a b (upgrade.refused v f) (upgrade.kept h) = absurd (not_refused d v h f)
-upgrades_determined d a b (upgrade.kept h) (upgrade.refused v f) = absurd (not_refused d v h f)
-upgrades_determined d a b (upgrade.kept h) (upgrade.kept k) = (refl, refl)
+-- all answers to a document that is held against its axioms first look alike, if those that its meaning has do
+pub checked_determined : (d : Document) (Meaning : Answer → Type 0) → IsDetermined Meaning
+    → IsDetermined (IsChecked d Meaning)
+checked_determined d Meaning one a b (checked.refused v f) (checked.refused w g) = refusals_determined d v w f g
+checked_determined d Meaning one a b (checked.refused v f) (checked.met b' h m) = absurd (not_refused d v h f)
+checked_determined d Meaning one a b (checked.met a' h m) (checked.refused v f) = absurd (not_refused d v h f)
+checked_determined d Meaning one a b (checked.met a' h m) (checked.met b' k n) = one a b m n

@@ -11,7 +11,9 @@ use Rattle.om_document.specs.declared.document.Document.{Document}
 use Rattle.om_reply.specs.Answers.{upgrades}
 use Rattle.om_representation.specs.Axioms.{MeetsAxiomsOn}
 use Rattle.om_representation.specs.Documents.{with_map}
-use Rattle.om_commands.specs.Upgrades.{IsUpgrade, IsGiven, kept}
+use Rattle.om_commands.specs.Checked.{met}
+use Rattle.om_commands.specs.Given.{IsGiven}
+use Rattle.om_commands.specs.Upgrades.{IsUpgrade}
 
 -- the document with these parts
 abbrev pub with_names : ℕ → Body → List (List ℕ) → Document
@@ -29,7 +31,7 @@ pub given_upgraded : (n : ℕ) (b : Body) (names : List (List ℕ)) (d : Documen
     → MeetsAxiomsOn n b → IsUpgrade (with_names n b names) (upgrades (with_names d.elements d.body names))
 given_upgraded n b names d given same axioms =
     let P : Document → Type 0 = λ e. IsUpgrade (with_names n b names) (upgrades (with_names e.elements e.body names)) in
-    subst P (sym (same ∙ given_kept n b given)) (kept axioms)
+    subst P (sym (same ∙ given_kept n b given)) (met _ axioms refl)
 
 pub wiring_upgraded : (n : ℕ) (blocks back : List Block) (names : List (List ℕ)) → back ≡ blocks
     → MeetsAxiomsOn n (body.Wiring blocks)
@@ -37,4 +39,4 @@ pub wiring_upgraded : (n : ℕ) (blocks back : List Block) (names : List (List �
 wiring_upgraded n blocks back names same axioms =
     let P : List Block → Type 0 =
     λ bs. IsUpgrade (with_names n (body.Wiring blocks) names) (upgrades (with_names n (body.Wiring bs) names)) in
-    subst P (sym same) (kept axioms)
+    subst P (sym same) (met _ axioms refl)

@@ -1,3 +1,5 @@
+pub mod Checked
+pub mod Given
 pub mod Upgrades
 pub mod Memberships
 pub mod Conversions

@@ -3,7 +3,8 @@
 ghost use Rattle.std.specs.Prelude.{◌≡◌, ◌≤◌, IfOk, length, All};
 ghost use Rattle.om_signs.specs.declared.limits.TheConstants.{MAX_ELEMENTS};
 ghost use Rattle.om_document.specs.Form.{IsInForm, AreBlocks};
-ghost use Rattle.om_commands.specs.Upgrades.{IsUpgrade, IsGiven};
+ghost use Rattle.om_commands.specs.Given.{IsGiven};
+ghost use Rattle.om_commands.specs.Upgrades.{IsUpgrade};
 
 use om_document::{Body, Document, Name};
 use om_reply::Answer;

@@ -33,7 +33,7 @@ use Rattle.om_reply.specs.declared.answer.Answer.{Answer}
 use Rattle.om_reply.specs.Answers.{says, shows}
 use Rattle.om_commands.specs.Conversions.{has_kind, IsMemberOf, IsTooWideAs, IsKeptAs, HasTooMany, HasExactly}
 use Rattle.om_commands.specs.Conversions.{IsConverted, IsConversion, itself, wide, limited, converted}
-use Rattle.om_commands.specs.Upgrades.{IsGiven}
+use Rattle.om_commands.specs.Given.{IsGiven}
 use Rattle.om_existence.proofs.GivenCovectors.{covector_in, circuit_in, cocircuit_in}
 use Rattle.om_existence.proofs.MapForms.{map_form}
 use Rattle.om_existence.proofs.WithinLimits.{HasList, all_listed, unnamed, list_form}

@@ -19,7 +19,7 @@ use Rattle.om_document.specs.Form.{IsBodyOn}
 use Rattle.om_representation.specs.Chirotopes.{IsChirotopeOf}
 use Rattle.om_representation.specs.Covectors.{IsCovectorIn, IsCovectorOfBody}
 use Rattle.om_commands.specs.Conversions.{IsMemberOf}
-use Rattle.om_commands.specs.Upgrades.{IsGiven}
+use Rattle.om_commands.specs.Given.{IsGiven}
 use Rattle.om_existence.proofs.Worked.{IsWorked, IsItsChirotope}
 
 -- ---- a body

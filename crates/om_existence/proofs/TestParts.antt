@@ -1,20 +1,18 @@
--- A document is given to the three-term test, or upgraded.
+-- A document is given to the three-term test, or held against the axioms of its kind.
 --
--- Main results: test_possible, upgrade_possible.
-use Rattle.std.specs.Prelude.{ℕ, ◌≡◌, ◌+◌, ◌≤◌, List, [], ◌∷◌, ◌++◌, length, refl}
-use Rattle.std.proofs.Common.{sym, ◌∙◌, ap, subst, inl, inr, arith}
+-- Main results: test_possible, checked_possible.
+use Rattle.std.specs.Prelude.{ℕ, ◌≡◌, ◌≤◌, List, [], ◌∷◌, length, refl}
+use Rattle.std.proofs.Common.{sym, ◌∙◌, subst, inl, inr, arith}
 use Rattle.om_signs.specs.declared.raw_map.RawMap.{RawMap}
 use Rattle.om_subsets.specs.Lists.{IsBefore}
 use Rattle.om_subsets.specs.Members.{Chosen}
-use Rattle.om_chirotope.specs.Chirotope.{IsChirotope}
 use Rattle.om_chirotope.specs.Map.{SignMap, map_of, IsMap}
 use Rattle.om_chirotope.specs.ThreeTerm.{HasExchange, HasThreeTermRelations, MeetsThreeTermTest}
 use Rattle.om_chirotope.proofs.Axioms.{nonzero_or_zeros, not_all_zero}
 use Rattle.om_chirotope.proofs.ThreeTerms.{chirotope_of_test, test_of_chirotope}
-use Rattle.om_threeterm.specs.declared.three_refused.ThreeRefused.{ThreeRefused}
 use Rattle.om_threeterm.specs.declared.three_refused.ThreeRefused.TheVariants as why
-use Rattle.om_threeterm.specs.Violations.{IsUnexchanged, IsFirstUnexchangedOf, IsFirstUnexchanged, IsUnbalanced}
-use Rattle.om_threeterm.specs.Violations.{IsUnbalancedList, IsFirstUnbalancedOf, IsFirstUnbalanced}
+use Rattle.om_threeterm.specs.Violations.{IsUnexchanged, IsFirstUnexchanged}
+use Rattle.om_threeterm.specs.Violations.{IsUnbalancedList, IsFirstUnbalanced}
 use Rattle.om_threeterm.proofs.ExchangeLaws.{exchange_of_no_violated}
 use Rattle.om_threeterm.proofs.RelationLaws.{balanced_or_not}
 use Rattle.om_document.specs.declared.body.Body.{Body}
@@ -24,10 +22,11 @@ use Rattle.om_document.specs.Form.{IsBodyOn, IsInForm}
 use Rattle.om_printing.specs.declared.line.Line.TheVariants as line
 use Rattle.om_representation.specs.Axioms.{MeetsAxioms}
 use Rattle.om_reply.specs.declared.answer.Answer.{Answer}
-use Rattle.om_reply.specs.Answers.{says, upgrades}
+use Rattle.om_reply.specs.Answers.{says}
 use Rattle.om_commands.specs.ThreeTermTests.{failure_line, IsTestOfMap, fails, meets, IsNoMap, IsThreeTermTest, of_map}
 use Rattle.om_commands.specs.ThreeTermTests.{refused, no_map}
-use Rattle.om_commands.specs.Upgrades as upgrade
+use Rattle.om_commands.specs.Checked.{IsChecked}
+use Rattle.om_commands.specs.Checked as checked
 use Rattle.om_existence.specs.Possible.{IsPossible}
 use Rattle.om_existence.proofs.Possible.{held, then, mapped, either_way, least, IsLeast}
 use Rattle.om_existence.proofs.Firsts.{IsFirst, first_subset}
@@ -141,7 +140,7 @@ map_tested raw whole = elim (nonzero_or_zeros m whole) [
     m : SignMap
     m = map_of raw
 
--- ---- the test and the upgrade of a document
+-- ---- the test of a document
 
 other_tested : (d : Document) → IsInForm d → IsNoMap d.body → IsPossible ((a : Answer) × IsThreeTermTest d a)
 other_tested d form other = then (either_way (MeetsAxioms d)) (λ e. elim e [
@@ -162,8 +161,10 @@ body_tested d (Points points) form is on = other_tested d form (λ m e. let same
 pub test_possible : (d : Document) → IsInForm d → IsPossible ((a : Answer) × IsThreeTermTest d a)
 test_possible d form = body_tested d d.body form refl form.body
 
-pub upgrade_possible : (d : Document) → IsInForm d → IsPossible ((a : Answer) × upgrade.IsUpgrade d a)
-upgrade_possible d form = then (either_way (MeetsAxioms d)) (λ e. elim e [
-  | inl axioms ↦ held (upgrades d, upgrade.kept axioms)
-  | inr fail ↦ mapped (λ h. (says (refused_line h.0), upgrade.refused h.0 h.1)) (refusal_possible d form fail)
+-- a document that is held against its axioms first has an answer, if it has one where it meets them
+pub checked_possible : (d : Document) (Meaning : Answer → Type 0) → IsInForm d
+    → (MeetsAxioms d → IsPossible ((a : Answer) × Meaning a)) → IsPossible ((a : Answer) × IsChecked d Meaning a)
+checked_possible d Meaning form meant = then (either_way (MeetsAxioms d)) (λ e. elim e [
+  | inl axioms ↦ mapped (λ h. (h.0, checked.met h.0 axioms h.1)) (meant axioms)
+  | inr fail ↦ mapped (λ h. (says (refused_line h.0), checked.refused h.0 h.1)) (refusal_possible d form fail)
 ])

@@ -3,12 +3,11 @@
 -- Main results: worked_possible: a document that meets its axioms, and isn't flat, is worked on as a map or a list that
 -- meets them; chirotope_possible: such a document has a chirotope; for_chirotope_possible, for_kept_chirotope_possible:
 -- where each chirotope has an answer, its document has one.
-use Rattle.std.specs.Prelude.{ℕ, ℤ, ◌≡◌, ◌≢◌, ◌<◌, ◌≤◌, ◌↔◌, List, [], length, refl}
-use Rattle.std.proofs.Common.{sym, ◌∙◌, ap, subst, inl, inr, arith}
+use Rattle.std.specs.Prelude.{ℕ, ◌≡◌, ◌≤◌, List, length, refl}
+use Rattle.std.proofs.Common.{sym, ◌∙◌, subst, inl, inr, arith}
 use Rattle.std.proofs.lemmas.List.{length-map}
 use Rattle.om_signs.specs.declared.limits.TheConstants.{MAX_ELEMENTS}
 use Rattle.om_signs.specs.declared.raw_map.RawMap.{RawMap}
-use Rattle.om_signs.specs.declared.sign.Sign.{Sign}
 use Rattle.om_chirotope.specs.Map.{SignMap, map_of}
 use Rattle.om_chirotope.specs.Chirotope.{IsChirotope, IsChirotopeWithinLimits}
 use Rattle.om_denotation.specs.Covectors.{IsCovectorOfChirotope}
@@ -33,7 +32,7 @@ use Rattle.om_reply.specs.declared.answer.Answer.{Answer}
 use Rattle.om_reply.specs.Answers.{says}
 use Rattle.om_representation.specs.AnyRank.{IsForKeptChirotope, wide, kept}
 use Rattle.om_representation.specs.RankThree.{IsForChirotope, for_chirotope}
-use Rattle.om_commands.specs.Upgrades.{IsGiven}
+use Rattle.om_commands.specs.Given.{IsGiven}
 use Rattle.om_existence.specs.Possible.{IsPossible}
 use Rattle.om_existence.proofs.Possible.{held, then, mapped, either_way}
 use Rattle.om_existence.proofs.MapForms.{rank3_form}

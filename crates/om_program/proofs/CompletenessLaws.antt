@@ -1,7 +1,6 @@
 -- A command that may be answered is answered, or memory is wanting.
 --
--- Main results: always_answered; how a task that reads nothing ends (alone_ends); tasks that read other things are
--- other tasks (apart_document_claim, apart_nothing_document, apart_nothing_claim).
+-- Main results: always_answered; how a task that reads nothing ends (alone_ends).
 use Rattle.std.specs.Prelude.{ℕ, ◌≡◌, ◌≢◌, ◌⊎◌, List, [], Option, Some, refl}
 use Rattle.std.proofs.Common.{sym, ◌∙◌, subst, inl, inr, arith}
 use Rattle.om_lines.specs.Lines.{lines}
@@ -15,64 +14,78 @@ use Rattle.om_reply.specs.declared.status.Status.TheVariants.{Done, Refused, Usa
 use Rattle.om_reply.specs.declared.status.Status.TheVariants.{NoMemory}
 use Rattle.om_words.specs.declared.task.Task.{Task}
 use Rattle.om_reply.specs.Answers.{status_of}
-use Rattle.om_plane.specs.Claims.{ClaimMeans}
-use Rattle.om_program.specs.Completeness.{HasInput, none, document, claim, IsAnswerable, IsDoneOrNoMemory}
+use Rattle.om_representation.specs.Axioms.{MeetsAxioms}
+use Rattle.om_document.specs.declared.code.Code.{Code}
+use Rattle.om_document.specs.Document.{IsDocument}
+use Rattle.om_text.specs.Fault.{IsFault}
+use Rattle.om_answer.specs.Claim.{IsClaim}
+use Rattle.om_answer.specs.ClaimFault.{IsClaimFault}
+use Rattle.om_program.specs.declared.plan.Plan.{Plan}
+use Rattle.om_program.specs.declared.plan.Plan.TheVariants as plan
+use Rattle.om_program.specs.declared.plan.Reading.TheVariants as reading
+use Rattle.om_program.specs.Plans.{plan_for, reads_by}
+use Rattle.om_program.specs.Completeness.{HasText, IsSoundClaim, HasInputFor, HasInput}
+use Rattle.om_program.specs.Completeness.{IsAnswerable, IsDoneOrNoMemory}
 use Rattle.om_plane.specs.MadeInputs.{IsMade, made}
-use Rattle.om_program.specs.Meaning.{DocumentMeans, TaskMeans, long, faulty, read, faulty_claim, claimed, alone}
+use Rattle.om_program.specs.Meaning.{DocumentMeans, IsAnswerToClaim, InputMeans, long, faulty, read}
+use Rattle.om_program.specs.Meaning.{PlanMeans, TaskMeans}
 use Rattle.om_program.specs.Run.{IsTaskAnswer, IsWhole}
 use Rattle.om_reply.specs.Statuses.{IsAnswered}
 use Rattle.om_words.specs.Tasks.{reads}
 use Rattle.om_words.specs.Words.{Names}
 use Rattle.om_program.proofs.MeaningLaws.{named_answer}
+use Rattle.om_program.proofs.PlanLaws.{planned}
 
 -- tasks that read other things are other tasks
-pub apart_document_claim : (t : Task) → reads t ≡ source.Document → reads t ≡ source.Claim → ⊥
+apart_document_claim : (t : Task) → reads t ≡ source.Document → reads t ≡ source.Claim → ⊥
 apart_document_claim t p q = let e = sym p ∙ q in cc
 
-pub apart_nothing_document : (t : Task) → reads t ≡ source.Nothing → reads t ≡ source.Document → ⊥
+apart_nothing_document : (t : Task) → reads t ≡ source.Nothing → reads t ≡ source.Document → ⊥
 apart_nothing_document t p q = let e = sym p ∙ q in cc
 
-pub apart_nothing_claim : (t : Task) → reads t ≡ source.Nothing → reads t ≡ source.Claim → ⊥
+apart_nothing_claim : (t : Task) → reads t ≡ source.Nothing → reads t ≡ source.Claim → ⊥
 apart_nothing_claim t p q = let e = sym p ∙ q in cc
 
 made_done : (seed count : ℕ) (a : Answer) → IsMade seed count a → status_of a ≡ Done
 made_done seed count a (made t tally back) = refl
 
--- whatever a task means for an input that lets it answer has the status 0
-fulfilled : (t : Task) (bytes : List ℕ) → HasInput t bytes → (a : Answer) → TaskMeans t bytes a → status_of a ≡ Done
-fulfilled t bytes (none nothing) a (long reading past) = absurd (reading nothing)
-fulfilled t bytes (none nothing) a (faulty n c reading short is) = absurd (apart_nothing_document t nothing reading)
-fulfilled t bytes (none nothing) a (read d b reading short is means) = absurd (apart_nothing_document t nothing reading)
-fulfilled t bytes (none nothing) a (faulty_claim n c reading short is) = absurd (apart_nothing_claim t nothing reading)
-fulfilled t bytes (none nothing) a (claimed c l reading short is means) = absurd (apart_nothing_claim t nothing reading)
-fulfilled t bytes (none nothing) a (alone seed count b same is) = made_done seed count a is
-fulfilled t bytes (document d reads_document short is axioms done) a (long reading past) = absurd (omega arith)
-fulfilled t bytes (document d reads_document short is axioms done) a (faulty n c reading short' at) =
-    absurd (no_fault (lines bytes) d n c is at)
-fulfilled t bytes (document d reads_document short is axioms done) a (read e b reading short' other means) =
-    done a (subst (λ k. DocumentMeans t k a) (sym (same_value (lines bytes) d e is other)) means)
-fulfilled t bytes (document d reads_document short is axioms done) a (faulty_claim n c reading short' at) =
-    absurd (apart_document_claim t reads_document reading)
-fulfilled t bytes (document d reads_document short is axioms done) a (claimed c l reading short' other means) =
-    absurd (apart_document_claim t reads_document reading)
-fulfilled t bytes (document d reads_document short is axioms done) a (alone seed count b same is_made) =
-    made_done seed count a is_made
-fulfilled t bytes (claim c reads_claim short is axioms done) a (long reading past) = absurd (omega arith)
-fulfilled t bytes (claim c reads_claim short is axioms done) a (faulty n code reading short' at) =
-    absurd (apart_document_claim t reading reads_claim)
-fulfilled t bytes (claim c reads_claim short is axioms done) a (read e b reading short' other means) =
-    absurd (apart_document_claim t reading reads_claim)
-fulfilled t bytes (claim c reads_claim short is axioms done) a (faulty_claim n code reading short' at) =
-    absurd (claims.no_fault (lines bytes) c n code is at)
-fulfilled t bytes (claim c reads_claim short is axioms done) a (claimed e l reading short' other means) =
-    done l (subst (λ k. ClaimMeans k l) (sym (claims.same_claim (lines bytes) c e is other)) means)
-fulfilled t bytes (claim c reads_claim short is axioms done) a (alone seed count b same is_made) =
-    made_done seed count a is_made
+-- whatever a text means that has an answer has the status 0
+module _ {A : Type 0} (IsFaulty : List (List ℕ) → ℕ → Code → Type 0) (IsText : List (List ℕ) → A → Type 0)
+    (IsSound : A → Type 0) (Meaning : A → Answer → Type 0) (bytes : List ℕ)
+    (no_fault : (a : A) (n : ℕ) (c : Code) → IsText (lines bytes) a → IsFaulty (lines bytes) n c → ⊥)
+    (same_value : (a b : A) → IsText (lines bytes) a → IsText (lines bytes) b → a ≡ b) where
+  text_fulfilled : HasText IsText IsSound Meaning bytes → (a : Answer) → InputMeans IsFaulty IsText Meaning bytes a
+      → status_of a ≡ Done
+  text_fulfilled given a (long past) = let short = given.short in absurd (omega (arith, past, short))
+  text_fulfilled given a (faulty n c short at) = absurd (no_fault given.value n c given.text at)
+  text_fulfilled given a (read v b short is means) =
+      given.done a (subst (λ k. Meaning k a) (sym (same_value given.value v given.text is)) means)
+
+-- whatever a plan means for an input that lets it answer has the status 0
+plan_fulfilled : (p : Plan) (bytes : List ℕ) → HasInputFor p bytes → (a : Answer) → PlanMeans p bytes a
+    → status_of a ≡ Done
+plan_fulfilled (plan.Make seed count) bytes given a means = made_done seed count a means
+plan_fulfilled (plan.Read reading.Claim) bytes given a means =
+    text_fulfilled IsClaimFault IsClaim IsSoundClaim IsAnswerToClaim bytes (claims.no_fault (lines bytes))
+    (claims.same_claim (lines bytes)) given a means
+plan_fulfilled (plan.Read (reading.Document what)) bytes given a means =
+    text_fulfilled IsFault IsDocument MeetsAxioms (DocumentMeans what) bytes (no_fault (lines bytes))
+    (same_value (lines bytes)) given a means
+
+-- a plan that reads nothing has its input
+nothing_wanted : (p : Plan) (bytes : List ℕ) → reads_by p ≡ source.Nothing → HasInputFor p bytes
+nothing_wanted (plan.Make seed count) bytes same = tt
+nothing_wanted (plan.Read reading.Claim) bytes same = cc
+nothing_wanted (plan.Read (reading.Document what)) bytes same = cc
+
+none : (t : Task) → reads t ≡ source.Nothing → HasInput t []
+none t nothing = nothing_wanted (plan_for t) [] ((planned t).0 ∙ nothing)
 
 -- a status that the answer of a task has
 status_done : (t : Task) (bytes : List ℕ) (status : Status) (old new : Option (List ℕ)) → HasInput t bytes
     → IsWhole (TaskMeans t bytes) status old new → status ≡ Done
-status_done t bytes status old new input (a, (means, (is, appends))) = is ∙ fulfilled t bytes input a means
+status_done t bytes status old new input (a, (means, (is, appends))) =
+    is ∙ plan_fulfilled (plan_for t) bytes input a means
 
 -- a run of a task that reads nothing
 pub alone_ends : (t : Task) (old new : Option (List ℕ)) (status : Status) → reads t ≡ source.Nothing
@@ -80,9 +93,9 @@ pub alone_ends : (t : Task) (old new : Option (List ℕ)) (status : Status) → 
     → (status ≡ Done) ⊎ ((status ≡ WriteFault) ⊎ (status ≡ NoMemory))
 alone_ends t old new Done nothing answer no_read = inl refl
 alone_ends t old new Refused nothing answer no_read =
-    inl (status_done t [] Refused old new (none nothing) (answer tt []))
-alone_ends t old new Usage nothing answer no_read = inl (status_done t [] Usage old new (none nothing) (answer tt []))
-alone_ends t old new Limit nothing answer no_read = inl (status_done t [] Limit old new (none nothing) (answer tt []))
+    inl (status_done t [] Refused old new (none t nothing) (answer tt []))
+alone_ends t old new Usage nothing answer no_read = inl (status_done t [] Usage old new (none t nothing) (answer tt []))
+alone_ends t old new Limit nothing answer no_read = inl (status_done t [] Limit old new (none t nothing) (answer tt []))
 alone_ends t old new ReadFault nothing answer no_read = absurd (no_read refl)
 alone_ends t old new WriteFault nothing answer no_read = inr (inl refl)
 alone_ends t old new NoMemory nothing answer no_read = inr (inr refl)

@@ -3,7 +3,7 @@ mod FaultLaws
 mod MeaningLaws
 mod OneAnswer
 mod OneUsage
-mod PlanLaws
+pub mod PlanLaws
 pub mod ReplyLaws
 mod ValidClaimLaws
 pub mod Chaining

@@ -1,6 +1,6 @@
 -- What a task means is an answer to a command: never a usage, and of a form that can be written.
 --
--- Main results: task_replies, each answer of a task can be written.
+-- Main results: task_replies and reading_replies, each answer of a task can be written.
 use Rattle.std.specs.Prelude.{ℕ, List}
 use Rattle.std.proofs.Common.{sym, subst}
 use Rattle.om_signs.specs.declared.sign.Sign.{Sign}
@@ -30,11 +30,18 @@ use Rattle.om_document.specs.declared.kinds.Kind.{Kind}
 use Rattle.om_printing.specs.declared.line.Line.{Line}
 use Rattle.om_reply.specs.declared.answer.Answer.{Answer}
 use Rattle.om_commands.specs.declared.operation.Operation.{Operation}
-use Rattle.om_commands.specs.declared.operation.Operation.TheVariants as operation
 use Rattle.om_words.specs.declared.task.Task.{Task}
-use Rattle.om_words.specs.declared.task.Task.TheVariants.{Accept, Member, Convert, Dual, Delete, Contract, Reorient}
-use Rattle.om_words.specs.declared.task.Task.TheVariants.{Wiring, Mutations, Flip, Extend, Decide, Paint, Hull, Lexext}
-use Rattle.om_words.specs.declared.task.Task.TheVariants.{Threeterm, Upgrade, Check, Make}
+use Rattle.om_program.specs.declared.plan.OnDocument.{OnDocument}
+use Rattle.om_program.specs.declared.plan.OnDocument.TheVariants as document
+use Rattle.om_program.specs.declared.plan.OnMatroid.{OnMatroid}
+use Rattle.om_program.specs.declared.plan.OnMatroid.TheVariants.{Member, Convert, Operate, Wiring, Mutations, Flip}
+use Rattle.om_program.specs.declared.plan.OnMatroid.TheVariants.{Extend, Paint, Hull, Lexext, Decide}
+use Rattle.om_program.specs.declared.plan.Plan.{Plan}
+use Rattle.om_program.specs.declared.plan.Plan.TheVariants as plan
+use Rattle.om_program.specs.declared.plan.Reading.{Reading}
+use Rattle.om_program.specs.declared.plan.Reading.TheVariants as reading
+use Rattle.om_program.specs.Plans.{plan_for}
+use Rattle.om_commands.specs.Checked.{IsChecked, refused, met}
 use Rattle.om_reply.specs.Statuses.{IsReplied}
 use Rattle.om_reply.specs.Answers.{IsReply, status_of_line}
 use Rattle.om_representation.specs.declared.document_refused.DocumentRefused.{DocumentRefused}
@@ -49,15 +56,14 @@ use Rattle.om_plane.proofs.MadeLaws.{made_replies}
 use Rattle.om_commands.proofs.ReachLaws.{painting_replies, hull_replies, extension_replies}
 use Rattle.om_commands.specs.Operations as operations
 use Rattle.om_commands.specs.ThreeTermTests as tests
-use Rattle.om_commands.specs.Upgrades as upgrades
 use Rattle.om_signs.specs.declared.raw_map.RawMap.{RawMap}
 use Rattle.om_signs.proofs.Contained.{none_contained}
 use Rattle.om_threeterm.specs.declared.three_refused.ThreeRefused.{ThreeRefused}
 use Rattle.om_threeterm.specs.declared.three_refused.ThreeRefused.TheVariants as three
 use Rattle.om_plane.specs.Claims as claims
 use Rattle.om_plane.proofs.DecisionLaws.{decision_replies}
-use Rattle.om_program.specs.Meaning.{IsAnswerOf, DocumentMeans, flat_line, tested, upgraded, refused, flat, answered}
-use Rattle.om_program.specs.Meaning.{TaskMeans, long, faulty, read, faulty_claim, claimed, alone}
+use Rattle.om_program.specs.Meaning.{IsAnswerOf, MatroidMeans, flat, answered, DocumentMeans}
+use Rattle.om_program.specs.Meaning.{long, faulty, read, ReadingMeans, PlanMeans, TaskMeans}
 
 -- ---- the lines of the axioms
 
@@ -161,49 +167,56 @@ closed_under_negation n (body.Covectors members) axioms = axioms.symmetric
 closed_under_negation n (body.Wiring blocks) axioms = λ x none. absurd (none_contained x none)
 closed_under_negation n (body.Points points) axioms = λ x none. absurd (none_contained x none)
 
-upgrade_replies : (d : Document) (a : Answer) → IsInForm d → upgrades.IsUpgrade d a → IsReply a
-upgrade_replies d a form (upgrades.refused why is) = refused_replies why
-upgrade_replies d a form (upgrades.kept axioms) = (form, closed_under_negation d.elements d.body axioms)
+-- the answer to a document that is held against its axioms first
+checked_replies : (d : Document) (Meaning : Answer → Type 0) (a : Answer)
+    → ((b : Answer) → MeetsAxiomsOn d.elements d.body → Meaning b → IsReply b) → IsChecked d Meaning a → IsReply a
+checked_replies d Meaning a each (refused why is) = refused_replies why
+checked_replies d Meaning a each (met b axioms is) = each b axioms is
 
--- ---- the answers of tasks: one line for each
+-- ---- what is asked: one line for each
 
-task_answer_replies : (t : Task) (d : Document) (a : Answer) → IsAnswerOf t d a → IsReply a
-task_answer_replies Accept d a is = subst IsReply (sym is) tt
-task_answer_replies (Member x) d a is = membership_replies _ _ x a is
-task_answer_replies (Convert k) d a is = conversion_replies k d a is
-task_answer_replies Dual d a is = operation_replies operation.Dual d a is
-task_answer_replies (Delete e) d a is = operation_replies (operation.Delete e) d a is
-task_answer_replies (Contract e) d a is = operation_replies (operation.Contract e) d a is
-task_answer_replies (Reorient mask) d a is = operation_replies (operation.Reorient mask) d a is
-task_answer_replies Wiring d a is = wiring_replies d a is
-task_answer_replies Mutations d a is = mutations_replies d a is
-task_answer_replies (Flip x y z) d a is = flip_replies x y z d a is
-task_answer_replies (Extend first) d a is = extensions_reply first d a is
-task_answer_replies (Paint colouring) d a is = painting_replies colouring d a is
-task_answer_replies Hull d a is = hull_replies d a is
-task_answer_replies (Lexext leading) d a is = extension_replies leading d a is
-task_answer_replies Threeterm d a is = absurd is
-task_answer_replies Upgrade d a is = absurd is
-task_answer_replies (Decide b) d a is = decision_replies b d a is
-task_answer_replies Check d a is = absurd is
-task_answer_replies (Make seed count) d a is = absurd is
+answer_replies : (what : OnMatroid) (d : Document) (a : Answer) → IsAnswerOf what d a → IsReply a
+answer_replies (Member x) d a is = membership_replies _ _ x a is
+answer_replies (Convert k) d a is = conversion_replies k d a is
+answer_replies (Operate operation) d a is = operation_replies operation d a is
+answer_replies Wiring d a is = wiring_replies d a is
+answer_replies Mutations d a is = mutations_replies d a is
+answer_replies (Flip x y z) d a is = flip_replies x y z d a is
+answer_replies (Extend first) d a is = extensions_reply first d a is
+answer_replies (Paint colouring) d a is = painting_replies colouring d a is
+answer_replies Hull d a is = hull_replies d a is
+answer_replies (Lexext leading) d a is = extension_replies leading d a is
+answer_replies (Decide b) d a is = decision_replies b d a is
 
-flat_replies : (t : Task) → IsReplied (status_of_line (flat_line t))
-flat_replies Accept = tt
-flat_replies _ = tt
+matroid_replies : (what : OnMatroid) (d : Document) (a : Answer) → MatroidMeans what d a → IsReply a
+matroid_replies what d a (flat is) = tt
+matroid_replies what d a (answered b bent is) = answer_replies what _ a is
 
-document_replies : (t : Task) (d : Document) (a : Answer) → IsInForm d → DocumentMeans t d a → IsReply a
-document_replies t d a form (tested b same is) = test_replies d a is
-document_replies t d a form (upgraded b same is) = upgrade_replies d a form is
-document_replies t d a form (refused why other kept is) = refused_replies why
-document_replies t d a form (flat other kept axioms is) = flat_replies t
-document_replies t d a form (answered b other kept axioms bent is) = task_answer_replies t _ a is
+document_replies : (what : OnDocument) (d : Document) (a : Answer) → IsInForm d → DocumentMeans what d a → IsReply a
+document_replies document.Accept d a form is =
+    checked_replies d _ a (λ b axioms same. subst IsReply (sym same) tt) is
+document_replies document.ThreeTerm d a form is = test_replies d a is
+document_replies document.Upgrade d a form is =
+    checked_replies d _ a (λ b axioms same.
+    subst IsReply (sym same) (form, closed_under_negation d.elements d.body axioms)) is
+document_replies (document.Matroid what) d a form is =
+    checked_replies d _ a (λ b axioms means. matroid_replies what d b means) is
+
+-- ---- an input
+
+pub reading_replies : (what : Reading) (bytes : List ℕ) (a : Answer) → ReadingMeans what bytes a → IsReply a
+reading_replies reading.Claim bytes a (long past) = tt
+reading_replies reading.Claim bytes a (faulty n c short is) = tt
+reading_replies reading.Claim bytes a (read c b short is (l, (same, means))) =
+    subst IsReply (sym same) (claim_replies c l means)
+reading_replies (reading.Document what) bytes a (long past) = tt
+reading_replies (reading.Document what) bytes a (faulty n c short is) = tt
+reading_replies (reading.Document what) bytes a (read d b short is means) =
+    document_replies what d a (document_form (wordful (lines bytes)) d is) means
+
+plan_replies : (p : Plan) (bytes : List ℕ) (a : Answer) → PlanMeans p bytes a → IsReply a
+plan_replies (plan.Make seed count) bytes a is = made_replies seed count a is
+plan_replies (plan.Read what) bytes a means = reading_replies what bytes a means
 
 pub task_replies : (t : Task) (bytes : List ℕ) (a : Answer) → TaskMeans t bytes a → IsReply a
-task_replies t bytes a (long reads past) = tt
-task_replies t bytes a (faulty n c reads short is) = tt
-task_replies t bytes a (read d b reads short is means) =
-    document_replies t d a (document_form (wordful (lines bytes)) d is) means
-task_replies t bytes a (faulty_claim n c reads short is) = tt
-task_replies t bytes a (claimed c l reads short is means) = claim_replies c l means
-task_replies t bytes a (alone seed count b same is) = made_replies seed count b is
+task_replies t bytes a means = plan_replies (plan_for t) bytes a means

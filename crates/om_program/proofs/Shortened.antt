@@ -15,7 +15,12 @@ use Rattle.om_words.specs.Words.{Names}
 use Rattle.om_reply.specs.declared.answer.Answer.{Answer}
 use Rattle.om_reply.specs.declared.status.Status.{Status}
 use Rattle.om_reply.specs.declared.status.Status.TheVariants as status
-use Rattle.om_program.specs.Meaning.{TaskMeans, long, faulty, read, faulty_claim, claimed, alone, Means, named}
+use Rattle.om_document.specs.declared.code.Code.{Code}
+use Rattle.om_program.specs.declared.plan.Plan.{Plan}
+use Rattle.om_program.specs.declared.plan.Plan.TheVariants as plan
+use Rattle.om_program.specs.declared.plan.Reading.TheVariants as reading
+use Rattle.om_program.specs.Plans.{plan_for}
+use Rattle.om_program.specs.Meaning.{InputMeans, long, faulty, read, PlanMeans, TaskMeans, Means, named}
 use Rattle.om_program.specs.Answered.{AreMeant, none, one_more, AreAnswered, Stops, Breaks}
 use Rattle.om_program.specs.Each.{IsEachAnswered, AreFirstWritten, IsNextCutOff}
 use Rattle.om_pieces.specs.Making.{most, made, nothing}
@@ -24,20 +29,25 @@ use Rattle.om_pieces.proofs.Feeding.{cut_pieces, has_one_cut}
 
 -- ---- one piece
 
--- an input that is too long means what any other one means that is
-long_meant : (task : Task) (front bytes : List ℕ) (answer : Answer) → reads task ≢ source.Nothing
-    → MAX_INPUT < length front → MAX_INPUT < length bytes → TaskMeans task front answer → TaskMeans task bytes answer
-long_meant task front bytes x r f l (long reading past) = long reading l
-long_meant task front bytes x r f l (faulty n c k short fault) = absurd (omega (arith, f, short))
-long_meant task front bytes x r f l (read d answer k short document m) = absurd (omega (arith, f, short))
-long_meant task front bytes x r f l (faulty_claim n c k short fault) = absurd (omega (arith, f, short))
-long_meant task front bytes x r f l (claimed c w k short claim m) = absurd (omega (arith, f, short))
-long_meant task front bytes x r f l (alone seed count answer e m) = absurd (r (ap reads e))
+-- a text that is too long means what any other one means that is
+long_meant : {A : Type 0} (F : List (List ℕ) → ℕ → Code → Type 0) (T : List (List ℕ) → A → Type 0)
+    (M : A → Answer → Type 0) (front bytes : List ℕ) (answer : Answer) → MAX_INPUT < length front
+    → MAX_INPUT < length bytes → InputMeans F T M front answer → InputMeans F T M bytes answer
+long_meant F T M front bytes x f l (long past) = long l
+long_meant F T M front bytes x f l (faulty n c short fault) = absurd (omega (arith, f, short))
+long_meant F T M front bytes x f l (read v answer short is m) = absurd (omega (arith, f, short))
 
-pub piece_meant : (task : Task) (piece : List ℕ) (answer : Answer) → reads task ≢ source.Nothing
-    → TaskMeans task (take most piece) answer → TaskMeans task piece answer
-piece_meant task piece answer r m = elim (cases_lt MAX_INPUT (length piece)) [
-  | inl l ↦ long_meant task (take most piece) piece answer r (let k = length-take most piece in omega (arith, k, l)) l m
+long_planned : (p : Plan) (front bytes : List ℕ) (answer : Answer) → MAX_INPUT < length front
+    → MAX_INPUT < length bytes → PlanMeans p front answer → PlanMeans p bytes answer
+long_planned (plan.Make seed count) front bytes x f l m = m
+long_planned (plan.Read reading.Claim) front bytes x f l m = long_meant _ _ _ front bytes x f l m
+long_planned (plan.Read (reading.Document what)) front bytes x f l m = long_meant _ _ _ front bytes x f l m
+
+pub piece_meant : (task : Task) (piece : List ℕ) (answer : Answer) → TaskMeans task (take most piece) answer
+    → TaskMeans task piece answer
+piece_meant task piece answer m = elim (cases_lt MAX_INPUT (length piece)) [
+  | inl l ↦ long_planned (plan_for task) (take most piece) piece answer
+      (let k = length-take most piece in omega (arith, k, l)) l m
   | inr s ↦ subst (λ bytes. TaskMeans task bytes answer) (take_all most piece (omega (arith, s))) m
 ]
 
@@ -57,7 +67,7 @@ pieces_meant words task fronts [] answers n r e (one_more p ps x xs m ms) = absu
     full_empty x xs e = cc
 pieces_meant words task fronts (q ∷ qs) answers n r e (one_more p ps x xs m ms) =
     one_more q qs x xs (named task x n
-    (piece_meant task q x r (subst (λ bytes. TaskMeans task bytes x) (heads _ _ _ _ e) m)))
+    (piece_meant task q x (subst (λ bytes. TaskMeans task bytes x) (heads _ _ _ _ e) m)))
     (pieces_meant words task ps qs xs n r (tails _ _ _ _ e) ms)
   where
     heads : (a b : List ℕ) (xs ys : List (List ℕ)) → ◌≡◌ {A = List (List ℕ)} (a ∷ xs) (b ∷ ys) → a ≡ b
@@ -155,7 +165,7 @@ next_cut_off words task n bytes o m pos names reading (qs, (q, (left, (e, (xs, (
                 (
                   x,
                   (
-                    named task x names (piece_meant task piece x reading
+                    named task x names (piece_meant task piece x
                         (subst (λ b. TaskMeans task b x) (heads _ _ _ _ rest) mx)),
                     w,
                   ),

@@ -26,8 +26,10 @@ use Rattle.om_reply.specs.Answers.{says, judges}
 use Rattle.om_plane.specs.Claims.{VerdictMeans, valid, judged, limited, verified, valid_line}
 use Rattle.om_plane.specs.Decisions.{IsDecided, DecisionMeans, other_rank, decided, IsDecision}
 use Rattle.om_representation.specs.RankThree.{for_chirotope}
-use Rattle.om_program.specs.Meaning.{Means, usage, named, TaskMeans, long, faulty, read, faulty_claim, claimed, alone}
-use Rattle.om_program.specs.Meaning.{DocumentMeans, tested, upgraded, refused, flat, answered}
+use Rattle.om_commands.specs.Checked.{refused, met}
+use Rattle.om_program.specs.declared.plan.OnDocument.TheVariants.{Matroid}
+use Rattle.om_program.specs.declared.plan.OnMatroid.TheVariants as matroid
+use Rattle.om_program.specs.Meaning.{Means, usage, named, TaskMeans, long, faulty, read, DocumentMeans, flat, answered}
 use Rattle.om_program.specs.ValidClaims.{IsLimit, IsFoundValid, VerdictsAreFoundValid, LimitsAreFoundWithoutCertificate}
 use Rattle.om_plane.proofs.VerdictSizes.{verdict_short}
 use Rattle.om_words.proofs.TaskLaws.{named_decide}
@@ -53,20 +55,16 @@ map_judged b m a (decided v is) = (m, (refl, is))
 decision_judged : (b : Budgets) (d : Document) (a : Answer) → IsDecision b d a → IsJudged b a
 decision_judged b d a (for_chirotope m answer of means) = map_judged b m a means
 
-document_judged : (b : Budgets) (d : Document) (a : Answer) → DocumentMeans (Decide b) d a → IsJudged b a
-document_judged b d a (tested answer same is) = cc
-document_judged b d a (upgraded answer same is) = cc
-document_judged b d a (refused why other kept is) = tt
-document_judged b d a (flat other kept axioms is) = tt
-document_judged b d a (answered answer other kept axioms bent is) = decision_judged b _ a is
+document_judged : (b : Budgets) (d : Document) (a : Answer) → DocumentMeans (Matroid (matroid.Decide b)) d a
+    → IsJudged b a
+document_judged b d a (refused why is) = tt
+document_judged b d a (met answer axioms (flat is)) = tt
+document_judged b d a (met answer axioms (answered other bent is)) = decision_judged b _ a is
 
 task_judged : (b : Budgets) (bytes : List ℕ) (a : Answer) → TaskMeans (Decide b) bytes a → IsJudged b a
-task_judged b bytes a (long reads past) = tt
-task_judged b bytes a (faulty n c reads short is) = tt
-task_judged b bytes a (read d answer reads short is means) = document_judged b d a means
-task_judged b bytes a (faulty_claim n c reads short is) = tt
-task_judged b bytes a (claimed c l reads short is means) = tt
-task_judged b bytes a (alone seed count answer same is) = cc
+task_judged b bytes a (long past) = tt
+task_judged b bytes a (faulty n c short is) = tt
+task_judged b bytes a (read d answer short is means) = document_judged b d a means
 
 -- the map of a body
 abbrev map_in : Body → SignMap
@@ -99,8 +97,8 @@ text_checked : (m : SignMap) (b : Budgets) (v : Verdict) (l : Line) → IsDecide
     → Means (codes "check" ∷ []) (verdict_text m v) (says l)
 text_checked m b v l is means =
     named Check _ (record { arguments = []; first = refl; behind = refl })
-    (claimed (claim_of m v) l refl (verdict_short m b v is) (claim_read m v (document_form m is.rank is.sound) is.form)
-    (verified m l is.sound.axioms (λ bent. bent) refl means))
+    (read (claim_of m v) (says l) (verdict_short m b v is) (claim_read m v (document_form m is.rank is.sound) is.form)
+    (l, (refl, verified m l is.sound.axioms (λ bent. bent) refl means)))
 
 evidence_checked : (m : SignMap) (b : Budgets) (v : Verdict) (e : Evidence) → IsDecided m b v → certificate_of v ≡ Ok e
     → Means (codes "check" ∷ []) (verdict_text m v) (says (valid_line e))

@@ -1,7 +1,7 @@
 -- What the words after the program's name and the bytes of its input mean: an answer, with its status and its text.
--- `run` is proved against this relation. Its cases come in the order in which they are tested, and each holds only
--- if none before it does. What each command answers is defined in a file of its own.
-use Rattle.std.specs.Prelude.{ℕ, ◌≡◌, ◌≢◌, ◌<◌, ◌≤◌, List, length}
+-- `run` is proved against this relation. Words name a task, a task has a plan, and each step of a plan has a line
+-- below. What each command answers is defined in a file of its own.
+use Rattle.std.specs.Prelude.{ℕ, ◌≡◌, ◌<◌, ◌≤◌, List, length}
 use Rattle.om_signs.specs.declared.limits.TheConstants.{MAX_INPUT}
 use Rattle.om_document.specs.declared.code.Code.{Code}
 use Rattle.om_document.specs.declared.document.Document.{Document}
@@ -14,17 +14,11 @@ use Rattle.om_printing.specs.declared.line.Line.TheVariants as line
 use Rattle.om_answer.specs.Claim.{IsClaim}
 use Rattle.om_answer.specs.ClaimFault.{IsClaimFault}
 use Rattle.om_reply.specs.declared.answer.Answer.{Answer}
-use Rattle.om_commands.specs.declared.operation.Operation.TheVariants as operation
-use Rattle.om_words.specs.declared.reads.Reads.TheVariants as source
 use Rattle.om_words.specs.declared.task.Task.{Task}
-use Rattle.om_words.specs.declared.task.Task.TheVariants.{Accept, Member, Convert, Dual, Delete, Contract, Reorient}
-use Rattle.om_words.specs.declared.task.Task.TheVariants.{Wiring, Mutations, Flip, Extend, Decide, Paint, Hull, Lexext}
-use Rattle.om_words.specs.declared.task.Task.TheVariants.{Threeterm, Upgrade, Check, Make}
 use Rattle.om_reply.specs.Answers.{says}
-use Rattle.om_representation.specs.declared.document_refused.DocumentRefused.{DocumentRefused}
-use Rattle.om_representation.specs.Axioms.{MeetsAxioms, IsRefused, IsFlatDocument}
-use Rattle.om_representation.specs.RefusalLines.{refused_line}
+use Rattle.om_representation.specs.Axioms.{IsFlatDocument}
 use Rattle.om_plane.specs.Claims.{ClaimMeans}
+use Rattle.om_commands.specs.Checked.{IsChecked}
 use Rattle.om_commands.specs.Conversions.{IsConversion}
 use Rattle.om_representation.specs.Covectors.{IsCovectorIn}
 use Rattle.om_plane.specs.Decisions.{IsDecision}
@@ -39,21 +33,25 @@ use Rattle.om_plane.specs.MutationLists.{AreMutations}
 use Rattle.om_commands.specs.Operations.{IsOperation}
 use Rattle.om_commands.specs.Paintings.{IsPainting}
 use Rattle.om_plane.specs.Sweeps.{IsWiringOf}
-use Rattle.om_words.specs.Tasks.{reads}
 use Rattle.om_commands.specs.ThreeTermTests.{IsThreeTermTest}
 use Rattle.om_commands.specs.Upgrades.{IsUpgrade}
 use Rattle.om_words.specs.Words.{Names, IsUsage}
+use Rattle.om_program.specs.Plans.{plan_for}
+use Rattle.om_program.specs.declared.plan.OnDocument.{OnDocument}
+use Rattle.om_program.specs.declared.plan.OnDocument.TheVariants.{Accept, ThreeTerm, Upgrade, Matroid}
+use Rattle.om_program.specs.declared.plan.OnMatroid.{OnMatroid}
+use Rattle.om_program.specs.declared.plan.OnMatroid.TheVariants.{Member, Convert, Operate, Wiring, Mutations, Flip}
+use Rattle.om_program.specs.declared.plan.OnMatroid.TheVariants.{Extend, Paint, Hull, Lexext, Decide}
+use Rattle.om_program.specs.declared.plan.Plan.{Plan}
+use Rattle.om_program.specs.declared.plan.Plan.TheVariants as plan
+use Rattle.om_program.specs.declared.plan.Reading.{Reading}
+use Rattle.om_program.specs.declared.plan.Reading.TheVariants as reading
 
--- The answer to a task on the document of a chirotope or of a list that meets its axioms. The three-term test and
--- the upgrade work on the document itself, a check reads a claim, and `make` reads nothing.
-abbrev pub IsAnswerOf : Task → Document → Answer → Type 0
-IsAnswerOf Accept d answer = answer ≡ says line.Accepted
+-- the answer to what is asked of an oriented matroid, by the document of its chirotope or of its list
+abbrev pub IsAnswerOf : OnMatroid → Document → Answer → Type 0
 IsAnswerOf (Member x) d answer = IsMembership d.elements (IsCovectorIn d) x answer
 IsAnswerOf (Convert k) d answer = IsConversion k d answer
-IsAnswerOf Dual d answer = IsOperation operation.Dual d answer
-IsAnswerOf (Delete e) d answer = IsOperation (operation.Delete e) d answer
-IsAnswerOf (Contract e) d answer = IsOperation (operation.Contract e) d answer
-IsAnswerOf (Reorient mask) d answer = IsOperation (operation.Reorient mask) d answer
+IsAnswerOf (Operate operation) d answer = IsOperation operation d answer
 IsAnswerOf Wiring d answer = IsWiringOf d answer
 IsAnswerOf Mutations d answer = AreMutations d answer
 IsAnswerOf (Flip a b c) d answer = IsFlip a b c d answer
@@ -61,53 +59,53 @@ IsAnswerOf (Extend first) d answer = AreExtensions first d answer
 IsAnswerOf (Paint colouring) d answer = IsPainting colouring d answer
 IsAnswerOf Hull d answer = IsHull d answer
 IsAnswerOf (Lexext leading) d answer = IsLexicalExtension leading d answer
-IsAnswerOf Threeterm d answer = ⊥
-IsAnswerOf Upgrade d answer = ⊥
-IsAnswerOf (Decide b) d answer = IsDecision b d answer
-IsAnswerOf Check d answer = ⊥
-IsAnswerOf (Make seed count) d answer = ⊥
+IsAnswerOf (Decide budgets) d answer = IsDecision budgets d answer
 
--- the answer to a task on a flat wiring: it is accepted, and nothing else can be done with it
-abbrev pub flat_line : Task → Line
-flat_line Accept = line.Accepted
-flat_line _ = line.RefusedFlatrank
+-- what is asked of an oriented matroid means for a document that meets its axioms
+pub data MatroidMeans (what : OnMatroid) (d : Document) : Answer → Type 0 where
+  -- the document is a wiring that gives no chirotope
+  flat : IsFlatDocument d → MatroidMeans what d (says line.RefusedFlatrank)
+  -- it gives an oriented matroid: points and wirings through their map, every other document by itself
+  answered : (answer : Answer) → (IsFlatDocument d → ⊥) → IsAnswerOf what (worked_on d) answer
+      → MatroidMeans what d answer
 
--- what a task means for a document
-pub data DocumentMeans (task : Task) (d : Document) : Answer → Type 0 where
-  -- the task is the three-term test of the document
-  tested : (answer : Answer) → task ≡ Threeterm → IsThreeTermTest d answer → DocumentMeans task d answer
-  -- the task is the upgrade of the document
-  upgraded : (answer : Answer) → task ≡ Upgrade → IsUpgrade d answer → DocumentMeans task d answer
-  -- the document fails the axioms of its kind, and this line names the first violated instance
-  refused : (why : DocumentRefused) → task ≢ Threeterm → task ≢ Upgrade → IsRefused d why
-      → DocumentMeans task d (says (refused_line why))
-  -- it meets them, and is a wiring that gives no chirotope
-  flat : task ≢ Threeterm → task ≢ Upgrade → MeetsAxioms d → IsFlatDocument d
-      → DocumentMeans task d (says (flat_line task))
-  -- it meets them and gives an oriented matroid: points and wirings through their map, every other document by
-  -- itself
-  answered : (answer : Answer) → task ≢ Threeterm → task ≢ Upgrade → MeetsAxioms d → (IsFlatDocument d → ⊥)
-      → IsAnswerOf task (worked_on d) answer → DocumentMeans task d answer
+-- What is asked of a document means for it. The three-term test speaks of maps that fail the axioms too.
+abbrev pub DocumentMeans : OnDocument → Document → Answer → Type 0
+DocumentMeans Accept d answer = IsChecked d (λ given. given ≡ says line.Accepted) answer
+DocumentMeans ThreeTerm d answer = IsThreeTermTest d answer
+DocumentMeans Upgrade d answer = IsUpgrade d answer
+DocumentMeans (Matroid what) d answer = IsChecked d (MatroidMeans what d) answer
+
+-- the answer to a claim is one line
+abbrev pub IsAnswerToClaim : Claim → Answer → Type 0
+IsAnswerToClaim c answer = (l : Line) × ((answer ≡ says l) × ClaimMeans c l)
+
+-- What an input means that is read as a text, with these faults and these values. The cases come in the order in which
+-- they are tested, and each holds only if none before it does.
+pub data InputMeans {A : Type 0} (IsFaulty : List (List ℕ) → ℕ → Code → Type 0) (IsText : List (List ℕ) → A → Type 0)
+    (Meaning : A → Answer → Type 0) (bytes : List ℕ) : Answer → Type 0 where
+  -- the input is longer than the limit
+  long : MAX_INPUT < length bytes → InputMeans IsFaulty IsText Meaning bytes (says line.RefusedLong)
+  -- a line is at fault
+  faulty : (n : ℕ) (c : Code) → length bytes ≤ MAX_INPUT → IsFaulty (lines bytes) n c
+      → InputMeans IsFaulty IsText Meaning bytes (says (line.RefusedLine n c))
+  -- the input is the text of a value
+  read : (a : A) (answer : Answer) → length bytes ≤ MAX_INPUT → IsText (lines bytes) a → Meaning a answer
+      → InputMeans IsFaulty IsText Meaning bytes answer
+
+-- what is asked of what is read means for an input
+abbrev pub ReadingMeans : Reading → List ℕ → Answer → Type 0
+ReadingMeans reading.Claim bytes answer = InputMeans IsClaimFault IsClaim IsAnswerToClaim bytes answer
+ReadingMeans (reading.Document what) bytes answer = InputMeans IsFault IsDocument (DocumentMeans what) bytes answer
+
+-- what a plan means for an input; vectors are made from a number, whatever the input is
+abbrev pub PlanMeans : Plan → List ℕ → Answer → Type 0
+PlanMeans (plan.Make seed count) bytes answer = IsMade seed count answer
+PlanMeans (plan.Read what) bytes answer = ReadingMeans what bytes answer
 
 -- what a task means for an input
-pub data TaskMeans (task : Task) (bytes : List ℕ) : Answer → Type 0 where
-  -- the task reads an input, and the input is longer than the limit
-  long : (reads task ≡ source.Nothing → ⊥) → MAX_INPUT < length bytes → TaskMeans task bytes (says line.RefusedLong)
-  -- the task reads a document, and a line is at fault
-  faulty : (n : ℕ) (c : Code) → reads task ≡ source.Document → length bytes ≤ MAX_INPUT → IsFault (lines bytes) n c
-      → TaskMeans task bytes (says (line.RefusedLine n c))
-  -- the input is a document
-  read : (d : Document) (answer : Answer) → reads task ≡ source.Document → length bytes ≤ MAX_INPUT
-      → IsDocument (lines bytes) d → DocumentMeans task d answer → TaskMeans task bytes answer
-  -- the task reads a claim, and a line is at fault
-  faulty_claim : (n : ℕ) (c : Code) → reads task ≡ source.Claim → length bytes ≤ MAX_INPUT
-      → IsClaimFault (lines bytes) n c → TaskMeans task bytes (says (line.RefusedLine n c))
-  -- the input is a claim
-  claimed : (c : Claim) (l : Line) → reads task ≡ source.Claim → length bytes ≤ MAX_INPUT → IsClaim (lines bytes) c
-      → ClaimMeans c l → TaskMeans task bytes (says l)
-  -- the task reads nothing, and makes vectors from a number, whatever the input is
-  alone : (seed count : ℕ) (answer : Answer) → task ≡ Make seed count → IsMade seed count answer
-      → TaskMeans task bytes answer
+abbrev pub TaskMeans : Task → List ℕ → Answer → Type 0
+TaskMeans task bytes answer = PlanMeans (plan_for task) bytes answer
 
 -- what words and an input mean
 pub data Means (words : List (List ℕ)) (bytes : List ℕ) : Answer → Type 0 where

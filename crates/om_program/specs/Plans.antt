@@ -1,5 +1,6 @@
--- The task for which a plan is made.
-use Rattle.om_commands.specs.declared.operation.Operation.{Operation}
+-- The plan of each task, what is read by it, and the limits of its numbers.
+use Rattle.om_budgets.specs.Ranges.{AreBudgets}
+use Rattle.om_commands.specs.Operations as operations
 use Rattle.om_commands.specs.declared.operation.Operation.TheVariants as operation
 use Rattle.om_program.specs.declared.plan.OnDocument.{OnDocument}
 use Rattle.om_program.specs.declared.plan.OnDocument.TheVariants as document
@@ -9,45 +10,71 @@ use Rattle.om_program.specs.declared.plan.Plan.{Plan}
 use Rattle.om_program.specs.declared.plan.Plan.TheVariants as plan
 use Rattle.om_program.specs.declared.plan.Reading.{Reading}
 use Rattle.om_program.specs.declared.plan.Reading.TheVariants as reading
+use Rattle.om_words.specs.Tasks.{AreIncreasing, AreLawful, HasElement, IsCount, IsNumberOfLines}
+use Rattle.om_words.specs.declared.reads.Reads.{Reads}
+use Rattle.om_words.specs.declared.reads.Reads.TheVariants as source
 use Rattle.om_words.specs.declared.task.Task.{Task}
 use Rattle.om_words.specs.declared.task.Task.TheVariants.{Accept, Threeterm, Upgrade, Check, Make}
 use Rattle.om_words.specs.declared.task.Task.TheVariants.{Member, Convert, Dual, Delete, Contract, Reorient}
 use Rattle.om_words.specs.declared.task.Task.TheVariants.{Wiring, Mutations, Flip, Extend, Decide, Paint, Hull, Lexext}
 
--- the task to make the dual, a minor or a reorientation
-abbrev pub operation_task : Operation → Task
-operation_task operation.Dual = Dual
-operation_task (operation.Delete e) = Delete e
-operation_task (operation.Contract e) = Contract e
-operation_task (operation.Reorient mask) = Reorient mask
+-- the plan to do this with a document
+abbrev pub on_document : OnDocument → Plan
+on_document what = plan.Read (reading.Document what)
 
--- the task to do this with an oriented matroid
-abbrev pub matroid_task : OnMatroid → Task
-matroid_task (matroid.Member x) = Member x
-matroid_task (matroid.Convert k) = Convert k
-matroid_task (matroid.Operate o) = operation_task o
-matroid_task matroid.Wiring = Wiring
-matroid_task matroid.Mutations = Mutations
-matroid_task (matroid.Flip a b c) = Flip a b c
-matroid_task (matroid.Extend first) = Extend first
-matroid_task (matroid.Paint colouring) = Paint colouring
-matroid_task matroid.Hull = Hull
-matroid_task (matroid.Lexext leading) = Lexext leading
-matroid_task (matroid.Decide budgets) = Decide budgets
+-- the plan to do this with the oriented matroid of a document
+abbrev pub on_matroid : OnMatroid → Plan
+on_matroid what = on_document (document.Matroid what)
 
--- the task to do this with a document
-abbrev pub document_task : OnDocument → Task
-document_task document.Accept = Accept
-document_task document.ThreeTerm = Threeterm
-document_task document.Upgrade = Upgrade
-document_task (document.Matroid what) = matroid_task what
+-- the plan of a task
+abbrev pub plan_for : Task → Plan
+plan_for Accept = on_document document.Accept
+plan_for (Member x) = on_matroid (matroid.Member x)
+plan_for (Convert k) = on_matroid (matroid.Convert k)
+plan_for Dual = on_matroid (matroid.Operate operation.Dual)
+plan_for (Delete e) = on_matroid (matroid.Operate (operation.Delete e))
+plan_for (Contract e) = on_matroid (matroid.Operate (operation.Contract e))
+plan_for (Reorient mask) = on_matroid (matroid.Operate (operation.Reorient mask))
+plan_for Wiring = on_matroid matroid.Wiring
+plan_for Mutations = on_matroid matroid.Mutations
+plan_for (Flip a b c) = on_matroid (matroid.Flip a b c)
+plan_for (Extend first) = on_matroid (matroid.Extend first)
+plan_for (Paint colouring) = on_matroid (matroid.Paint colouring)
+plan_for Hull = on_matroid matroid.Hull
+plan_for (Lexext leading) = on_matroid (matroid.Lexext leading)
+plan_for Threeterm = on_document document.ThreeTerm
+plan_for Upgrade = on_document document.Upgrade
+plan_for (Decide budgets) = on_matroid (matroid.Decide budgets)
+plan_for Check = plan.Read reading.Claim
+plan_for (Make seed count) = plan.Make seed count
 
--- the task to read this
-abbrev pub reading_task : Reading → Task
-reading_task reading.Claim = Check
-reading_task (reading.Document what) = document_task what
+-- what is read by a plan
+abbrev pub reads_by : Plan → Reads
+reads_by (plan.Make seed count) = source.Nothing
+reads_by (plan.Read reading.Claim) = source.Claim
+reads_by (plan.Read (reading.Document what)) = source.Document
 
--- the task of a plan
-abbrev pub plan_task : Plan → Task
-plan_task (plan.Make seed count) = Make seed count
-plan_task (plan.Read what) = reading_task what
+-- the numbers in what is asked of an oriented matroid lie within the limits
+abbrev pub IsLawfulOnMatroid : OnMatroid → Type 0
+IsLawfulOnMatroid (matroid.Operate operation) = operations.IsLawful operation
+IsLawfulOnMatroid (matroid.Flip a b c) = AreIncreasing a b c
+IsLawfulOnMatroid (matroid.Extend first) = IsNumberOfLines first
+IsLawfulOnMatroid (matroid.Paint colouring) = HasElement colouring
+IsLawfulOnMatroid (matroid.Lexext leading) = AreLawful leading
+IsLawfulOnMatroid (matroid.Decide budgets) = AreBudgets budgets
+IsLawfulOnMatroid _ = Unit {0}
+
+-- so do those in what is asked of a document
+abbrev pub IsLawfulOnDocument : OnDocument → Type 0
+IsLawfulOnDocument (document.Matroid what) = IsLawfulOnMatroid what
+IsLawfulOnDocument _ = Unit {0}
+
+-- so do those in what is asked of what is read
+abbrev pub IsLawfulReading : Reading → Type 0
+IsLawfulReading reading.Claim = Unit {0}
+IsLawfulReading (reading.Document what) = IsLawfulOnDocument what
+
+-- so do those in a plan
+abbrev pub IsLawfulPlan : Plan → Type 0
+IsLawfulPlan (plan.Make seed count) = IsCount count
+IsLawfulPlan (plan.Read what) = IsLawfulReading what

@@ -1,9 +1,9 @@
 //! From the bytes of an input to the answer.
 
-ghost use Rattle.std.specs.Prelude.{◌≡◌, ◌≤◌, IfOk, List, length, ℕ};
+ghost use Rattle.std.specs.Prelude.{◌≡◌, ◌≤◌, IfOk, length};
 ghost use Rattle.om_document.specs.Form.{IsInForm};
-ghost use Rattle.om_program.specs.Meaning.{TaskMeans, DocumentMeans, IsAnswerOf};
-ghost use Rattle.om_program.specs.Plans.{document_task, matroid_task, reading_task};
+ghost use Rattle.om_program.specs.Meaning.{TaskMeans, ReadingMeans, DocumentMeans, IsAnswerOf};
+ghost use Rattle.om_program.specs.Plans.{IsLawfulReading, IsLawfulOnDocument, IsLawfulOnMatroid};
 ghost use Rattle.om_representation.specs.Documents.{document_of};
 ghost use Rattle.om_representation.specs.Represented.{IsMeantFor};
 ghost use Rattle.om_representation.specs.Widths.{HasFewValues};
@@ -41,22 +41,9 @@ pub fn answer_input<R: Threads + Sync>(
     ensures { IfOk result (TaskMeans task bytes.now) }
 {
     match plan_of(task) {
-        Plan::Make { seed, count } => answer_alone(rt, alloc, seed, count),
+        Plan::Make { seed, count } => make_input(rt, alloc, seed, count),
         Plan::Read(what) => answer_reading(rt, alloc, what, bytes),
     }
-}
-
-/// The vectors that a number gives, whatever the input.
-pub fn answer_alone<R: Threads + Sync>(
-    rt: &R,
-    alloc: Global,
-    seed: u32,
-    count: u8,
-) -> Result<Answer, NoMemory>
-    requires lawful { HasLawfulArguments (Task.Make seed count) }
-    ensures { IfOk result (λ answer. (bytes : List ℕ) → TaskMeans (Task.Make seed count) bytes answer) }
-{
-    make_input(rt, alloc, seed, count)
 }
 
 /// The answer to what is asked of an input within the limit.
@@ -67,8 +54,8 @@ pub fn answer_reading<R: Threads + Sync>(
     bytes: &[u8],
 ) -> Result<Answer, NoMemory>
     requires short { length bytes.now ≤ MAX_INPUT }
-    requires lawful { HasLawfulArguments (reading_task what) }
-    ensures { IfOk result (TaskMeans (reading_task what) bytes.now) }
+    requires lawful { IsLawfulReading what }
+    ensures { IfOk result (ReadingMeans what bytes.now) }
 {
     match what {
         Reading::Claim => answer_claim(rt, alloc, bytes),
@@ -79,7 +66,7 @@ pub fn answer_reading<R: Threads + Sync>(
 /// The answer to a claim.
 fn answer_claim<R: Threads + Sync>(rt: &R, alloc: Global, bytes: &[u8]) -> Result<Answer, NoMemory>
     requires { length bytes.now ≤ MAX_INPUT }
-    ensures { IfOk result (TaskMeans Task.Check bytes.now) }
+    ensures { IfOk result (ReadingMeans Reading.Claim bytes.now) }
 {
     match read_claim(alloc, bytes) {
         Ok(claim) => Ok(Answer::Line(verify(rt, alloc, claim)?)),
@@ -96,8 +83,8 @@ fn answer_text<R: Threads + Sync>(
     bytes: &[u8],
 ) -> Result<Answer, NoMemory>
     requires short { length bytes.now ≤ MAX_INPUT }
-    requires lawful { HasLawfulArguments (document_task what) }
-    ensures { IfOk result (TaskMeans (document_task what) bytes.now) }
+    requires lawful { IsLawfulOnDocument what }
+    ensures { IfOk result (ReadingMeans (Reading.Document what) bytes.now) }
 {
     match parse(alloc, bytes) {
         Ok(document) => answer_document(rt, alloc, what, document),
@@ -114,8 +101,8 @@ fn answer_document<R: Threads + Sync>(
     document: Document,
 ) -> Result<Answer, NoMemory>
     requires form { IsInForm document }
-    requires lawful { HasLawfulArguments (document_task what) }
-    ensures { IfOk result (DocumentMeans (document_task what) document) }
+    requires lawful { IsLawfulOnDocument what }
+    ensures { IfOk result (DocumentMeans what document) }
 {
     match what {
         OnDocument::Accept => accept(rt, alloc, document),
@@ -128,7 +115,7 @@ fn answer_document<R: Threads + Sync>(
 /// Whether a document meets the axioms of its kind.
 fn accept<R: Threads + Sync>(rt: &R, alloc: Global, document: Document) -> Result<Answer, NoMemory>
     requires { IsInForm document }
-    ensures { IfOk result (DocumentMeans Task.Accept document) }
+    ensures { IfOk result (DocumentMeans OnDocument.Accept document) }
 {
     match represent(rt, alloc, document) {
         Ok(_representation) => Ok(Answer::Line(Line::Accepted)),
@@ -147,8 +134,8 @@ fn answer_represented<R: Threads + Sync>(
     document: Document,
 ) -> Result<Answer, NoMemory>
     requires form { IsInForm document }
-    requires lawful { HasLawfulArguments (matroid_task what) }
-    ensures { IfOk result (DocumentMeans (matroid_task what) document) }
+    requires lawful { IsLawfulOnMatroid what }
+    ensures { IfOk result (DocumentMeans (OnDocument.Matroid what) document) }
 {
     match represent(rt, alloc, document) {
         Ok(representation) => answer_matroid(rt, alloc, what, representation),
@@ -165,9 +152,9 @@ fn answer_matroid<R: Threads + Sync>(
     what: OnMatroid,
     representation: Representation,
 ) -> Result<Answer, NoMemory>
-    requires lawful { HasLawfulArguments (matroid_task what) }
+    requires lawful { IsLawfulOnMatroid what }
     requires few { HasFewValues (document_of representation) }
-    ensures { IfOk result (IsMeantFor (IsAnswerOf (matroid_task what)) representation) }
+    ensures { IfOk result (IsMeantFor (IsAnswerOf what) representation) }
 {
     match what {
         OnMatroid::Member(x) => Ok(find_membership(&representation, x)),

@@ -1,7 +1,7 @@
 //! What a task needs. A task is looked at once, by [`plan_of`].
 
 ghost use Rattle.std.specs.Prelude.{◌≡◌};
-ghost use Rattle.om_program.specs.Plans.{plan_task};
+ghost use Rattle.om_program.specs.Plans.{plan_for};
 
 use om_budgets::Budgets;
 use om_commands::Operation;
@@ -69,7 +69,7 @@ pub enum OnMatroid {
 
 /// What is done for a task.
 pub fn plan_of(task: Task) -> Plan
-    ensures { plan_task result ≡ task }
+    ensures { result ≡ plan_for task }
 {
     match task {
         Task::Make { seed, count } => Plan::Make { seed, count },

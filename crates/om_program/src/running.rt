@@ -11,15 +11,16 @@ ghost use Rattle.om_words.specs.ReadingCommands.{AreReadingCommand};
 ghost use Rattle.om_program.specs.Run.{IsWhole, IsCutOff, IsTaskAnswer, IsCutOffTask, IsMeantBy, TakesInput};
 ghost use Rattle.om_program.specs.Completeness.{IsAnswerable, IsDoneOrNoMemory};
 ghost use Rattle.om_reply.specs.Determined.{IsDetermined};
-ghost use Rattle.om_program.specs.Meaning.{Means, TaskMeans};
-ghost use Rattle.om_program.specs.Plans.{plan_task, reading_task};
+ghost use Rattle.om_program.specs.Meaning.{Means, TaskMeans, PlanMeans, ReadingMeans};
+ghost use Rattle.om_program.specs.Plans.{reads_by, IsLawfulPlan, IsLawfulReading};
 ghost use Rattle.om_words.specs.Tasks.{HasLawfulArguments, reads};
 ghost use Rattle.om_plane.specs.SameEvidence.{EvidenceDecides};
 ghost use Rattle.om_program.specs.ValidClaims.{LimitsAreFoundWithoutCertificate, VerdictsAreFoundValid};
 
-use super::answering::{answer_alone, answer_reading};
+use super::answering::answer_reading;
 use super::plan::{Plan, Reading, plan_of};
 use super::writing::write_and_drop;
+use om_plane::make_input;
 use om_port::{ReadError, Sink, Source, read_all};
 use om_printing::Line;
 use om_reply::{Answer, Status, write_usage};
@@ -203,23 +204,23 @@ fn find_answer<R: Threads + Sync, S: Source>(
     follow(rt, alloc, plan_of(task), source)
 }
 
-/// The answer to the task of a plan.
+/// The answer that a plan leads to.
 fn follow<R: Threads + Sync, S: Source>(
     rt: &R,
     alloc: Global,
     plan: Plan,
     source: &mut S,
 ) -> Result<Answer, Unanswered>
-    requires lawful { HasLawfulArguments (plan_task plan) }
+    requires lawful { IsLawfulPlan plan }
     requires ready { S.ready source.old }
-    ensures meant { IfOk result (IsMeantBy (TaskMeans (plan_task plan)) (S.left source.old)) }
-    ensures alone { reads (plan_task plan) ≡ Reads.Nothing
-        → IfOk result (λ answer. (bytes : List ℕ) → TaskMeans (plan_task plan) bytes answer) }
+    ensures meant { IfOk result (IsMeantBy (PlanMeans plan) (S.left source.old)) }
+    ensures alone { reads_by plan ≡ Reads.Nothing
+        → IfOk result (λ answer. (bytes : List ℕ) → PlanMeans plan bytes answer) }
     ensures reply { IfOk result IsReply }
-    ensures reading { result ≡ Err Unanswered.ReadFault → reads (plan_task plan) ≢ Reads.Nothing }
+    ensures reading { result ≡ Err Unanswered.ReadFault → reads_by plan ≢ Reads.Nothing }
     ensures read { result ≡ Err Unanswered.ReadFault → Rose (S.faults source.old) (S.faults source.new) }
-    ensures unread { reads (plan_task plan) ≡ Reads.Nothing → source.new ≡ source.old }
-    ensures taken { OnOk result (reads (plan_task plan) ≢ Reads.Nothing
+    ensures unread { reads_by plan ≡ Reads.Nothing → source.new ≡ source.old }
+    ensures taken { OnOk result (reads_by plan ≢ Reads.Nothing
         → TakesInput (S.left source.old) (S.left source.new)) }
     ensures prefix { TakesSome (S.left source.old) (S.left source.new) }
     ensures later { S.faults source.old ≤ S.faults source.new }
@@ -227,7 +228,7 @@ fn follow<R: Threads + Sync, S: Source>(
         → S.ready source.new ⊎ TakesAll (S.left source.old) (S.left source.new) }
 {
     match plan {
-        Plan::Make { seed, count } => Ok(answer_alone(rt, alloc, seed, count)?),
+        Plan::Make { seed, count } => Ok(make_input(rt, alloc, seed, count)?),
         Plan::Read(what) => read_and_answer(rt, alloc, what, source),
     }
 }
@@ -239,9 +240,9 @@ fn read_and_answer<R: Threads + Sync, S: Source>(
     what: Reading,
     source: &mut S,
 ) -> Result<Answer, Unanswered>
-    requires lawful { HasLawfulArguments (reading_task what) }
+    requires lawful { IsLawfulReading what }
     requires ready { S.ready source.old }
-    ensures meant { IfOk result (IsMeantBy (TaskMeans (reading_task what)) (S.left source.old)) }
+    ensures meant { IfOk result (IsMeantBy (ReadingMeans what) (S.left source.old)) }
     ensures reply { IfOk result IsReply }
     ensures read { result ≡ Err Unanswered.ReadFault → Rose (S.faults source.old) (S.faults source.new) }
     ensures taken { OnOk result (TakesInput (S.left source.old) (S.left source.new)) }

@@ -2,7 +2,7 @@ use Rattle.std.proofs.Common.{sym, subst, ◌∙◌}
 use Rattle.om_document.specs.declared.document.Document.{Document}
 use Rattle.om_representation.specs.Axioms.{IsRefusal}
 use Rattle.om_representation.specs.Documents.{document_of}
-use Rattle.om_commands.specs.Upgrades.{refused}
+use Rattle.om_commands.specs.Checked.{refused}
 use Rattle.om_representation.specs.Widths.{HasFewValues}
 use Rattle.om_representation.proofs.WidthLaws.{few_unless_rank3, few_worked_on}
 use Rattle.om_commands.proofs.UpgradeLaws.{given_upgraded}

@@ -1,16 +1,16 @@
-use Rattle.std.specs.Prelude.{ℤ, List, length}
+use Rattle.std.specs.Prelude.{ℤ, List, length, refl}
 use Rattle.std.proofs.Common.{subst}
 use Rattle.om_document.specs.declared.body.Body.TheVariants.{Points}
 use Rattle.om_vectors.specs.Realizations.{IsRankLow}
 use Rattle.om_representation.specs.Axioms.{IsRefusal, IsRankRefused}
 use Rattle.om_representation.specs.Points.{vectors_of}
-use Rattle.om_commands.specs.Upgrades.{refused, kept}
+use Rattle.om_commands.specs.Checked.{refused, met}
 use Rattle.om_commands.proofs.upgrading.upgrade_points.Goals as goal
 
 pub returns-in-Ok : goal.returns-in-Ok
 returns-in-Ok c =
     let P : List (List ℤ) → Type 0 = λ points. IsRankLow (vectors_of points) → ⊥ in
-    kept (subst P c.as_slice.ensures c.in-Ok.ensures.axioms)
+    met _ (subst P c.as_slice.ensures c.in-Ok.ensures.axioms) refl
 
 pub returns-in-Err-Refused : goal.returns-in-Err-Refused
 returns-in-Err-Refused c =

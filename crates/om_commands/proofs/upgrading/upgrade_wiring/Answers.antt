@@ -1,5 +1,5 @@
 use Rattle.std.proofs.Common.{◌∙◌}
-use Rattle.om_commands.specs.Upgrades.{refused}
+use Rattle.om_commands.specs.Checked.{refused}
 use Rattle.om_commands.proofs.UpgradeLaws.{wiring_upgraded}
 use Rattle.om_commands.proofs.upgrading.upgrade_wiring.Goals as goal
 

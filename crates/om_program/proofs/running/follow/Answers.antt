@@ -1,22 +1,18 @@
-use Rattle.std.specs.Prelude.{◌≡◌, []}
-use Rattle.std.proofs.Common.{subst}
+use Rattle.std.specs.Prelude.{◌≡◌}
+use Rattle.std.proofs.Common.{subst, inl}
 use Rattle.om_words.specs.declared.reads.Reads.TheVariants as source
-use Rattle.om_words.specs.declared.task.Task.TheVariants.{Make}
-use Rattle.om_words.specs.Tasks.{reads}
+use Rattle.om_plane.proofs.MadeLaws.{made_replies}
 use Rattle.om_program.specs.declared.plan.Plan.{Plan}
-use Rattle.om_program.specs.Plans.{plan_task}
+use Rattle.om_program.specs.Plans.{reads_by}
 use Rattle.om_program.proofs.PlanLaws.{reads_input}
-use Rattle.om_program.proofs.ReplyLaws.{task_replies}
-use Rattle.std.proofs.Common.{inl}
 use Rattle.om_program.proofs.running.follow.Goals as goal
 
--- the plan's task reads nothing
+-- the plan reads nothing
 abbrev ReadsNothing : Plan → Type 0
-ReadsNothing p = reads (plan_task p) ≡ source.Nothing
+ReadsNothing p = reads_by p ≡ source.Nothing
 
-pub returns-in_ok-answer_alone-in-Make-clause-reply : goal.returns-in_ok-answer_alone-in-Make-clause-reply
-returns-in_ok-answer_alone-in-Make-clause-reply g c =
-    task_replies (Make c.in-Make.seed c.in-Make.count) [] _ (c.in_ok-answer_alone-in-Make.ensures [])
+pub returns-in_ok-make_input-in-Make-clause-reply : goal.returns-in_ok-make_input-in-Make-clause-reply
+returns-in_ok-make_input-in-Make-clause-reply g c = made_replies _ _ _ c.in_ok-make_input-in-Make.ensures
 
 pub returns-in-Read-clause-alone : goal.returns-in-Read-clause-alone
 returns-in-Read-clause-alone g c = λ nothing. absurd (reads_input c.in-Read.what (subst ReadsNothing c.in-Read.is
@@ -48,5 +44,5 @@ returns-in-Read-clause-later g c = c.read_and_answer.ensures.later
 pub returns-in-Read-clause-still : goal.returns-in-Read-clause-still
 returns-in-Read-clause-still g c = c.read_and_answer.ensures.still
 
-pub returns-in_ok-answer_alone-in-Make-clause-still : goal.returns-in_ok-answer_alone-in-Make-clause-still
-returns-in_ok-answer_alone-in-Make-clause-still g c = λ other. inl c.requires.ready
+pub returns-in_ok-make_input-in-Make-clause-still : goal.returns-in_ok-make_input-in-Make-clause-still
+returns-in_ok-make_input-in-Make-clause-still g c = λ other. inl c.requires.ready

@@ -1,16 +1,15 @@
 use Rattle.std.specs.Prelude.{Err}
 use Rattle.std.proofs.Common.{ap, arith}
-use Rattle.om_program.specs.Meaning.{TaskMeans, long}
-use Rattle.om_program.specs.Plans.{reading_task}
+use Rattle.om_program.specs.Meaning.{ReadingMeans}
 use Rattle.om_program.proofs.MeaningLaws.{meant_of_long, taken_whole, taken_long}
-use Rattle.om_program.proofs.PlanLaws.{reads_input}
-use Rattle.om_program.proofs.ReplyLaws.{task_replies}
+use Rattle.om_program.proofs.PlanLaws.{long_reading}
+use Rattle.om_program.proofs.ReplyLaws.{reading_replies}
 use Rattle.std.proofs.Common.{inl, inr, refl}
 use Rattle.om_program.proofs.Readings.{taken_to_end}
 use Rattle.om_program.proofs.running.read_and_answer.Goals as goal
 
 pub returns-in_ok-answer_reading-in-Ok-clause-reply : goal.returns-in_ok-answer_reading-in-Ok-clause-reply
-returns-in_ok-answer_reading-in-Ok-clause-reply g c = task_replies _ _ _ c.in_ok-answer_reading-in-Ok.ensures
+returns-in_ok-answer_reading-in-Ok-clause-reply g c = reading_replies _ _ _ c.in_ok-answer_reading-in-Ok.ensures
 
 pub returns-in_ok-answer_reading-in-Ok-clause-taken : goal.returns-in_ok-answer_reading-in-Ok-clause-taken
 returns-in_ok-answer_reading-in-Ok-clause-taken g c =
@@ -22,9 +21,9 @@ returns-in-Err-TooLong-clause-taken g c =
 
 pub returns-in-Err-TooLong-clause-meant : goal.returns-in-Err-TooLong-clause-meant
 returns-in-Err-TooLong-clause-meant g c =
-    meant_of_long (TaskMeans (reading_task c.args.what)) _ _ _
+    meant_of_long (ReadingMeans c.args.what) _ _ _
     (c.in-Err-TooLong.ensures.long (ap Err c.in-Err-TooLong.field-0-is))
-    (λ bytes past. long (reads_input c.args.what) past)
+    (long_reading c.args.what)
 
 pub returns-in-Err-TooLong-clause-prefix : goal.returns-in-Err-TooLong-clause-prefix
 returns-in-Err-TooLong-clause-prefix g c = c.in-Err-TooLong.ensures.prefix
