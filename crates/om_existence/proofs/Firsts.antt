@@ -4,7 +4,7 @@
 -- number, a first one is possible, in the order of subsets, where a list stands before those that it begins, and in the
 -- order of the keys of violated instances.
 use Rattle.std.specs.Prelude.{List, [], ◌∷◌, length}
-use Rattle.std.proofs.Common.{ℕ, zero, suc, ◌≡◌, ◌+◌, ◌<◌, ◌≤◌, ◌⊎◌, sym, subst, inl, inr, arith}
+use Rattle.std.proofs.Common.{ℕ, zero, suc, ◌<◌, ◌≤◌, subst, inl, inr, arith}
 use Rattle.om_members.specs.Positions as keys
 use Rattle.om_subsets.specs.Lists as subsets
 use Rattle.om_existence.specs.Possible.{IsPossible}

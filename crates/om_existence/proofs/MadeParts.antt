@@ -1,13 +1,9 @@
 -- The vectors that a number gives have their counts.
 --
 -- Main results: made_possible.
-use Rattle.std.specs.Prelude.{ℕ, ◌≡◌, ◌≤◌, List, length, refl}
-use Rattle.std.proofs.Common.{arith}
+use Rattle.std.specs.Prelude.{ℕ, ◌≡◌, List, length, refl}
 use Rattle.om_signs.specs.declared.sign.Sign.{Sign}
 use Rattle.om_signs.specs.declared.sign.Sign.TheVariants.{Minus, Zero, Plus}
-use Rattle.om_subsets.specs.Members.{Chosen}
-use Rattle.om_subsets.specs.Subsets.{choose}
-use Rattle.om_chirotope.specs.Chirotope.{IsChirotope}
 use Rattle.om_chirotope.specs.Map.{SignMap}
 use Rattle.om_denotation.specs.Circuits.{IsCocircuitOfChirotope}
 use Rattle.om_denotation.specs.Covectors.{IsCovectorOfChirotope}
@@ -15,7 +11,7 @@ use Rattle.om_denotation.proofs.ChirotopeBridge.{cocircuit_length}
 use Rattle.om_vectors.specs.Realizations.{signs_map}
 use Rattle.om_vectors.specs.declared.tally.Tally.{Tally}
 use Rattle.om_make.specs.Generator.{made_vectors}
-use Rattle.om_make.specs.Tallies.{count_of, HasExactly, HasMutations, IsTallyOfMap}
+use Rattle.om_make.specs.Tallies.{count_of, HasExactly, IsTallyOfMap}
 use Rattle.om_make.proofs.BackLaws.{comes_back}
 use Rattle.om_make.proofs.GeneratorLaws.{units_span}
 use Rattle.om_words.specs.Tasks.{IsCount}

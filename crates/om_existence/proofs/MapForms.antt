@@ -2,7 +2,7 @@
 --
 -- Main results: map_form: a map within the limits is the map of a document in form; rank3_form: so is each one of rank
 -- 3.
-use Rattle.std.specs.Prelude.{ℕ, ◌≡◌, ◌≤◌, [], refl}
+use Rattle.std.specs.Prelude.{◌≡◌, ◌≤◌, refl}
 use Rattle.std.proofs.Common.{inl}
 use Rattle.om_signs.specs.declared.limits.TheConstants.{MAX_ELEMENTS, MAX_VALUES}
 use Rattle.om_subsets.specs.Subsets.{choose}

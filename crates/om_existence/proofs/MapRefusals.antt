@@ -2,13 +2,12 @@
 --
 -- Main results: first_pair_possible: of pairs that aren't all orthogonal a first violated one; map_refused: a map that
 -- is no chirotope has all values zero or a first violated pair.
-use Rattle.std.specs.Prelude.{ℕ, ◌≡◌, ◌+◌, ◌<◌, ◌≤◌, ◌⊎◌, List, length, refl}
-use Rattle.std.proofs.Common.{sym, ap, subst, inl, inr, arith}
+use Rattle.std.specs.Prelude.{ℕ, ◌+◌, ◌≤◌, List, length, refl}
+use Rattle.std.proofs.Common.{inl, inr, arith}
 use Rattle.om_signs.specs.declared.raw_map.RawMap.{RawMap}
-use Rattle.om_signs.specs.SignVec.{IsOrthogonal}
 use Rattle.om_subsets.specs.Lists.{IsBefore}
 use Rattle.om_subsets.specs.Members.{Chosen}
-use Rattle.om_chirotope.specs.Chirotope.{IsPair, IsOrthogonalPair, HasOrthogonalPairs, IsChirotope, IsAllZero}
+use Rattle.om_chirotope.specs.Chirotope.{IsPair, IsOrthogonalPair, HasOrthogonalPairs, IsChirotope}
 use Rattle.om_chirotope.specs.Chirotope.{IsFirstViolated}
 use Rattle.om_chirotope.specs.Map.{SignMap, map_of, IsMap, circuit_vector, cocircuit_vector}
 use Rattle.om_chirotope.specs.declared.map_refused.MapRefused.{MapRefused}
@@ -17,7 +16,7 @@ use Rattle.om_chirotope.proofs.Axioms.{nonzero_or_zeros, not_all_zero}
 use Rattle.om_chirotope.proofs.BlockLaws.{orthogonal_cases}
 use Rattle.om_representation.specs.Axioms.{IsViolatedMap}
 use Rattle.om_existence.specs.Possible.{IsPossible}
-use Rattle.om_existence.proofs.Possible.{held, then, mapped, either_way}
+use Rattle.om_existence.proofs.Possible.{held, then, mapped}
 use Rattle.om_existence.proofs.Firsts.{IsFirst, first_subset}
 
 module _ (m : SignMap) where

@@ -9,7 +9,7 @@ use Rattle.om_reply.specs.declared.answer.Answer.{Answer}
 use Rattle.om_reply.specs.Answers.{says}
 use Rattle.om_commands.specs.Memberships.{IsMembership, wrong_length, covector, not_covector}
 use Rattle.om_existence.specs.Possible.{IsPossible}
-use Rattle.om_existence.proofs.Possible.{held, then, mapped, either_way, least, IsLeast}
+use Rattle.om_existence.proofs.Possible.{held, then, mapped, either_way}
 
 pub membership_possible : (n : ℕ) (IsCovector : List Sign → Type 0) (x : List Sign)
     → IsPossible ((a : Answer) × IsMembership n IsCovector x a)

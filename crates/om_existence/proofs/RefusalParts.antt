@@ -1,8 +1,8 @@
 -- A document that fails its axioms has a first violated instance.
 --
 -- Main results: refusal_possible.
-use Rattle.std.specs.Prelude.{ℕ, ◌≡◌, ◌≤◌, List, length, refl}
-use Rattle.std.proofs.Common.{subst, sym, arith}
+use Rattle.std.specs.Prelude.{ℕ, ◌≡◌, ◌≤◌, length, refl}
+use Rattle.std.proofs.Common.{subst, sym}
 use Rattle.om_signs.specs.declared.raw_map.RawMap.{RawMap}
 use Rattle.om_subsets.specs.Subsets.{choose}
 use Rattle.om_chirotope.specs.Map.{map_of, IsMap}

@@ -1,7 +1,7 @@
 -- A list that fails the axioms of circuits, or those of covectors, has a first violated instance.
 --
 -- Main results: circuits_refused, covectors_refused.
-use Rattle.std.specs.Prelude.{ℕ, ◌≡◌, ◌+◌, ◌-◌, ◌<◌, ◌≤◌, ◌≢◌, ◌⊎◌, List, length, refl}
+use Rattle.std.specs.Prelude.{ℕ, ◌≡◌, ◌+◌, ◌-◌, ◌≤◌, ◌≢◌, ◌⊎◌, List, length, refl}
 use Rattle.std.proofs.Common.{sym, ◌∙◌, ap, subst, inl, inr, arith}
 use Rattle.std.specs.List.{Contains}
 use Rattle.std.proofs.lemmas.List.{get_or_past}
@@ -29,7 +29,7 @@ use Rattle.om_covectors.specs.Instances.{IsFirstViolatedCovectorAxiom}
 use Rattle.om_circuits.proofs.DecisionLaws as circuits
 use Rattle.om_covectors.proofs.DecisionLaws as covectors
 use Rattle.om_existence.specs.Possible.{IsPossible}
-use Rattle.om_existence.proofs.Possible.{held, then, mapped, either_way}
+use Rattle.om_existence.proofs.Possible.{then, mapped}
 use Rattle.om_existence.proofs.Firsts.{IsFirst, first_key}
 
 -- a member stands at a position

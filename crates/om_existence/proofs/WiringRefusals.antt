@@ -1,15 +1,15 @@
 -- A list of blocks that is no wiring diagram has a first step that breaks a rule, or doesn't end in the last order.
 --
 -- Main results: wiring_refused.
-use Rattle.std.specs.Prelude.{ℕ, ◌≡◌, ◌+◌, ◌⊎◌, List, [], ◌∷◌, ◌++◌, length, refl}
-use Rattle.std.proofs.Common.{sym, ◌∙◌, ap, subst, inl, inr, arith, append_assoc}
+use Rattle.std.specs.Prelude.{ℕ, ◌≡◌, ◌+◌, List, [], ◌∷◌, ◌++◌, length, refl}
+use Rattle.std.proofs.Common.{sym, subst, inl, inr, append_assoc}
 use Rattle.std.proofs.lemmas.List.{append-nil}
 use Rattle.om_signs.specs.declared.block.Block.{Block}
 use Rattle.om_wiring.specs.declared.wiring_refused.WiringRefused.{WiringRefused}
 use Rattle.om_wiring.specs.declared.wiring_refused.WiringRefused.TheVariants.{Range, NotIncreasing, NotReversed}
 use Rattle.om_wiring.specs.Refusals.{AreLawful, IsRefusal}
 use Rattle.om_wiring.specs.Scans.{IsRange}
-use Rattle.om_wiring.specs.Wirings.{HasIncreasingLabels, IsStep, IsReversed, IsWiring, position}
+use Rattle.om_wiring.specs.Wirings.{HasIncreasingLabels, IsStep, IsWiring, position}
 use Rattle.om_wiring.proofs.SweepEnds.{split_last}
 use Rattle.om_existence.specs.Possible.{IsPossible}
 use Rattle.om_existence.proofs.Possible.{held, then, either_way}
