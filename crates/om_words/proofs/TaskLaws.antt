@@ -20,7 +20,7 @@ use Rattle.om_words.proofs.LeadingLaws.{lawful_leading}
 use Rattle.om_words.proofs.OptionLaws.{number_of_within}
 use Rattle.om_words.proofs.VerbLaws.{same_verb}
 use Rattle.om_words.proofs.WordLaws.{first_of}
-use Rattle.om_words.proofs.VerbShapes.{decide_shape}
+use Rattle.om_words.proofs.VerbShapes.{shape}
 
 -- ---- the numbers that options give
 
@@ -92,4 +92,4 @@ lawful_task words (Err usage) exact = tt
 -- words that begin with `decide` name a decision
 pub named_decide : (options : List (List ℕ)) (t : Task) → Names (codes "decide" ∷ options) t → (b : Budgets)
     × (t ≡ task.Decide b)
-named_decide options t names = decide_shape.only t (sym (same_verb verb.Decide (verb_of t) (ap first_of names.first)))
+named_decide options t names = (shape verb.Decide).only t (sym (same_verb verb.Decide (verb_of t) (ap first_of names.first)))

@@ -1,8 +1,8 @@
--- Verbs are told apart by their words: a line for each verb in each of these.
+-- Verbs are told apart by their words.
 --
 -- Main results: verbs with one word are one (same_verb); place_below, the places of verbs; and for the loop over all
 -- verbs: verb_found, the verb of a word, and none_more, a word of none so far.
-use Rattle.std.specs.Prelude.{ℕ, ◌≡◌, ◌↔◌, ◌+◌, ◌<◌, List, Some, codes, cond, refl}
+use Rattle.std.specs.Prelude.{ℕ, ◌≡◌, ◌↔◌, ◌+◌, ◌<◌, List, [], ◌∷◌, Some, cond, refl}
 use Rattle.std.specs.Str.{bytes_eq}
 use Rattle.std.proofs.Common.{ap, sym, ◌∙◌, inl, inr, arith, get_or, lit<}
 use Rattle.std.proofs.lemmas.Bool.{cases_eq}
@@ -12,118 +12,47 @@ use Rattle.om_words.specs.declared.verb.Verb.{Verb}
 use Rattle.om_words.specs.declared.verb.Verb.TheVariants as verb
 use Rattle.om_words.specs.Words.{verb_word}
 
--- the verb that a word is
-abbrev verb_of_word : List ℕ → Verb
-verb_of_word word =
-    cond (bytes_eq word (codes "accept")) verb.Accept (
-    cond (bytes_eq word (codes "member")) verb.Member (
-    cond (bytes_eq word (codes "convert")) verb.Convert (
-    cond (bytes_eq word (codes "dual")) verb.Dual (
-    cond (bytes_eq word (codes "delete")) verb.Delete (
-    cond (bytes_eq word (codes "contract")) verb.Contract (
-    cond (bytes_eq word (codes "reorient")) verb.Reorient (
-    cond (bytes_eq word (codes "wiring")) verb.Wiring (
-    cond (bytes_eq word (codes "mutations")) verb.Mutations (
-    cond (bytes_eq word (codes "flip")) verb.Flip (
-    cond (bytes_eq word (codes "extend")) verb.Extend (
-    cond (bytes_eq word (codes "paint")) verb.Paint (
-    cond (bytes_eq word (codes "hull")) verb.Hull (
-    cond (bytes_eq word (codes "lexext")) verb.Lexext (
-    cond (bytes_eq word (codes "threeterm")) verb.Threeterm (
-    cond (bytes_eq word (codes "upgrade")) verb.Upgrade (
-    cond (bytes_eq word (codes "decide")) verb.Decide (
-    cond (bytes_eq word (codes "check")) verb.Check (
-    verb.Make))))))))))))))))))
-
-word_back : (v : Verb) → verb_of_word (verb_word v) ≡ v
-word_back verb.Accept = refl
-word_back verb.Member = refl
-word_back verb.Convert = refl
-word_back verb.Dual = refl
-word_back verb.Delete = refl
-word_back verb.Contract = refl
-word_back verb.Reorient = refl
-word_back verb.Wiring = refl
-word_back verb.Mutations = refl
-word_back verb.Flip = refl
-word_back verb.Extend = refl
-word_back verb.Paint = refl
-word_back verb.Hull = refl
-word_back verb.Lexext = refl
-word_back verb.Threeterm = refl
-word_back verb.Upgrade = refl
-word_back verb.Decide = refl
-word_back verb.Check = refl
-word_back verb.Make = refl
-
-pub same_verb : (u v : Verb) → verb_word u ≡ verb_word v → u ≡ v
-same_verb u v same = sym (word_back u) ∙ ap verb_of_word same ∙ word_back v
+-- the place of the first of some verbs that has the word
+abbrev place_in : List Verb → List ℕ → ℕ
+place_in [] word = 0
+place_in (v ∷ vs) word = cond (bytes_eq word (verb_word v)) 0 (place_in vs word + 1)
 
 -- the place of a verb in the list of all
-abbrev pub place_of : Verb → ℕ
-place_of verb.Accept = 0
-place_of verb.Member = 1
-place_of verb.Convert = 2
-place_of verb.Dual = 3
-place_of verb.Delete = 4
-place_of verb.Contract = 5
-place_of verb.Reorient = 6
-place_of verb.Wiring = 7
-place_of verb.Mutations = 8
-place_of verb.Flip = 9
-place_of verb.Extend = 10
-place_of verb.Paint = 11
-place_of verb.Hull = 12
-place_of verb.Lexext = 13
-place_of verb.Threeterm = 14
-place_of verb.Upgrade = 15
-place_of verb.Decide = 16
-place_of verb.Check = 17
-place_of verb.Make = 18
+pub place_of : Verb → ℕ
+place_of v = place_in VERBS (verb_word v)
 
--- each verb has a place in the list
+-- each verb has a place in the list, and stands there
+placed : (v : Verb) → (place_of v < 19) × (get_or VERBS (place_of v) verb.Accept ≡ v)
+unfolding place_of
+placed verb.Accept = (lit< tt, refl)
+placed verb.Member = (lit< tt, refl)
+placed verb.Convert = (lit< tt, refl)
+placed verb.Dual = (lit< tt, refl)
+placed verb.Delete = (lit< tt, refl)
+placed verb.Contract = (lit< tt, refl)
+placed verb.Reorient = (lit< tt, refl)
+placed verb.Wiring = (lit< tt, refl)
+placed verb.Mutations = (lit< tt, refl)
+placed verb.Flip = (lit< tt, refl)
+placed verb.Extend = (lit< tt, refl)
+placed verb.Paint = (lit< tt, refl)
+placed verb.Hull = (lit< tt, refl)
+placed verb.Lexext = (lit< tt, refl)
+placed verb.Threeterm = (lit< tt, refl)
+placed verb.Upgrade = (lit< tt, refl)
+placed verb.Decide = (lit< tt, refl)
+placed verb.Check = (lit< tt, refl)
+placed verb.Make = (lit< tt, refl)
+
 pub place_below : (v : Verb) → place_of v < 19
-place_below verb.Accept = lit< tt
-place_below verb.Member = lit< tt
-place_below verb.Convert = lit< tt
-place_below verb.Dual = lit< tt
-place_below verb.Delete = lit< tt
-place_below verb.Contract = lit< tt
-place_below verb.Reorient = lit< tt
-place_below verb.Wiring = lit< tt
-place_below verb.Mutations = lit< tt
-place_below verb.Flip = lit< tt
-place_below verb.Extend = lit< tt
-place_below verb.Paint = lit< tt
-place_below verb.Hull = lit< tt
-place_below verb.Lexext = lit< tt
-place_below verb.Threeterm = lit< tt
-place_below verb.Upgrade = lit< tt
-place_below verb.Decide = lit< tt
-place_below verb.Check = lit< tt
-place_below verb.Make = lit< tt
+place_below v = (placed v).0
 
--- and stands there
 verb_at : (v : Verb) → get_or VERBS (place_of v) verb.Accept ≡ v
-verb_at verb.Accept = refl
-verb_at verb.Member = refl
-verb_at verb.Convert = refl
-verb_at verb.Dual = refl
-verb_at verb.Delete = refl
-verb_at verb.Contract = refl
-verb_at verb.Reorient = refl
-verb_at verb.Wiring = refl
-verb_at verb.Mutations = refl
-verb_at verb.Flip = refl
-verb_at verb.Extend = refl
-verb_at verb.Paint = refl
-verb_at verb.Hull = refl
-verb_at verb.Lexext = refl
-verb_at verb.Threeterm = refl
-verb_at verb.Upgrade = refl
-verb_at verb.Decide = refl
-verb_at verb.Check = refl
-verb_at verb.Make = refl
+verb_at v = (placed v).1
+
+pub same_verb : (u v : Verb) → verb_word u ≡ verb_word v → u ≡ v
+unfolding place_of
+same_verb u v same = sym (verb_at u) ∙ ap (λ word. get_or VERBS (place_in VERBS word) verb.Accept) same ∙ verb_at v
 
 -- ---- the loop over the list of all verbs
 

@@ -1,14 +1,12 @@
 -- The tasks of each verb are those of the values that the words behind it are read as.
 --
--- Main results: accept_shape, member_shape, convert_shape, dual_shape, delete_shape, contract_shape, reorient_shape,
--- wiring_shape, mutations_shape, flip_shape, extend_shape, paint_shape, hull_shape, lexext_shape, threeterm_shape,
--- upgrade_shape, decide_shape, check_shape, make_shape
-use Rattle.std.specs.Prelude.{ℕ, ◌≡◌, List, refl}
+-- Main results: shape; what a verb and the words behind it name (task_named, fault_named).
+use Rattle.std.specs.Prelude.{ℕ, ◌≡◌, List, Result, Ok, Err, IsErrAnd, refl}
 use Rattle.std.proofs.Common.{subst}
 use Rattle.om_signs.specs.declared.sign.Sign.{Sign}
 use Rattle.om_document.specs.declared.kinds.Kind.{Kind}
 use Rattle.om_budgets.specs.declared.budgets.Budgets.{Budgets}
-use Rattle.om_words.specs.Options.{AreBudgets, AreSeedAndCount, AreLines}
+use Rattle.om_printing.specs.declared.usage.Usage.{Usage}
 use Rattle.om_words.specs.declared.task.Task.{Task}
 use Rattle.om_words.specs.declared.task.Task.TheVariants.{Accept, Member, Convert, Dual, Delete, Contract, Reorient}
 use Rattle.om_words.specs.declared.task.Task.TheVariants.{Wiring, Mutations, Flip, Extend, Decide, Paint, Hull, Lexext}
@@ -17,10 +15,8 @@ use Rattle.om_words.specs.declared.colouring.Colouring.{Colouring}
 use Rattle.om_words.specs.declared.leading.Leading.{Leading}
 use Rattle.om_words.specs.declared.verb.Verb.{Verb}
 use Rattle.om_words.specs.declared.verb.Verb.TheVariants as verb
-use Rattle.om_words.specs.Listings.{AreColouring, AreLeading}
-use Rattle.om_words.specs.Triples.{AreTriple}
-use Rattle.om_words.specs.Words.{Spells, NamesKind, IsElement, AreElements, AreNone, IsAlone, verb_of}
-use Rattle.om_words.proofs.WordLaws.{IsShape}
+use Rattle.om_words.specs.Words.{AreArguments, AreNamed, IsRead, verb_of}
+use Rattle.om_words.proofs.WordLaws.{IsShape, ok_named, err_passed}
 
 -- ---- the tasks of a verb: a line for each verb in each of these
 
@@ -112,59 +108,43 @@ task_back (Make seed count) = refl
 only : (v : Verb) (task : Task) → verb_of task ≡ v → (a : Value v) × (task ≡ task_of v a)
 only v task same = subst (λ u. (a : Value u) × (task ≡ task_of u a)) same (value_of task, task_back task)
 
-pub accept_shape : IsShape verb.Accept AreNone (λ _. Accept)
-accept_shape = record { verb = λ a. refl; arguments = λ a words. (λ h. h, λ h. h); only = only verb.Accept }
+verb_back : (v : Verb) (a : Value v) → verb_of (task_of v a) ≡ v
+verb_back verb.Accept a = refl
+verb_back verb.Member a = refl
+verb_back verb.Convert a = refl
+verb_back verb.Dual a = refl
+verb_back verb.Delete a = refl
+verb_back verb.Contract a = refl
+verb_back verb.Reorient a = refl
+verb_back verb.Wiring a = refl
+verb_back verb.Mutations a = refl
+verb_back verb.Flip a = refl
+verb_back verb.Extend a = refl
+verb_back verb.Paint a = refl
+verb_back verb.Hull a = refl
+verb_back verb.Lexext a = refl
+verb_back verb.Threeterm a = refl
+verb_back verb.Upgrade a = refl
+verb_back verb.Decide a = refl
+verb_back verb.Check a = refl
+verb_back verb.Make a = refl
 
-pub member_shape : IsShape verb.Member (IsAlone Spells) Member
-member_shape = record { verb = λ a. refl; arguments = λ a words. (λ h. h, λ h. h); only = only verb.Member }
+-- how the words behind a verb are read as a value
+abbrev IsReadAs : (v : Verb) → List (List ℕ) → Value v → Type 0
+IsReadAs v words a = AreArguments (task_of v a) words
 
-pub convert_shape : IsShape verb.Convert (IsAlone NamesKind) Convert
-convert_shape = record { verb = λ a. refl; arguments = λ a words. (λ h. h, λ h. h); only = only verb.Convert }
+pub shape : (v : Verb) → IsShape v (IsReadAs v) (task_of v)
+shape v = record { verb = verb_back v; arguments = λ a words. (λ h. h, λ h. h); only = only v }
 
-pub dual_shape : IsShape verb.Dual AreNone (λ _. Dual)
-dual_shape = record { verb = λ a. refl; arguments = λ a words. (λ h. h, λ h. h); only = only verb.Dual }
+-- the words behind a verb are read as a value, and name its task
+pub task_named : (v u : Verb) (words : List (List ℕ)) (result : Result (Value v) Usage) (a : Value v) → u ≡ v
+    → IsRead (IsReadAs v) words result → result ≡ Ok a → AreNamed u words (Ok (task_of v a))
+task_named v u words result a same read is =
+    rw same (ok_named v (IsReadAs v) (task_of v) words result a (shape v) read is)
 
-pub delete_shape : IsShape verb.Delete (IsAlone IsElement) Delete
-delete_shape = record { verb = λ a. refl; arguments = λ a words. (λ h. h, λ h. h); only = only verb.Delete }
-
-pub contract_shape : IsShape verb.Contract (IsAlone IsElement) Contract
-contract_shape = record { verb = λ a. refl; arguments = λ a words. (λ h. h, λ h. h); only = only verb.Contract }
-
-pub reorient_shape : IsShape verb.Reorient AreElements Reorient
-reorient_shape = record { verb = λ a. refl; arguments = λ a words. (λ h. h, λ h. h); only = only verb.Reorient }
-
-pub wiring_shape : IsShape verb.Wiring AreNone (λ _. Wiring)
-wiring_shape = record { verb = λ a. refl; arguments = λ a words. (λ h. h, λ h. h); only = only verb.Wiring }
-
-pub mutations_shape : IsShape verb.Mutations AreNone (λ _. Mutations)
-mutations_shape = record { verb = λ a. refl; arguments = λ a words. (λ h. h, λ h. h); only = only verb.Mutations }
-
-pub flip_shape : IsShape verb.Flip AreTriple (λ t. Flip t.0 t.1 t.2)
-flip_shape = record { verb = λ a. refl; arguments = λ a words. (λ h. h, λ h. h); only = only verb.Flip }
-
-pub extend_shape : IsShape verb.Extend AreLines Extend
-extend_shape = record { verb = λ a. refl; arguments = λ a words. (λ h. h, λ h. h); only = only verb.Extend }
-
-pub paint_shape : IsShape verb.Paint AreColouring Paint
-paint_shape = record { verb = λ a. refl; arguments = λ a words. (λ h. h, λ h. h); only = only verb.Paint }
-
-pub hull_shape : IsShape verb.Hull AreNone (λ _. Hull)
-hull_shape = record { verb = λ a. refl; arguments = λ a words. (λ h. h, λ h. h); only = only verb.Hull }
-
-pub lexext_shape : IsShape verb.Lexext AreLeading Lexext
-lexext_shape = record { verb = λ a. refl; arguments = λ a words. (λ h. h, λ h. h); only = only verb.Lexext }
-
-pub threeterm_shape : IsShape verb.Threeterm AreNone (λ _. Threeterm)
-threeterm_shape = record { verb = λ a. refl; arguments = λ a words. (λ h. h, λ h. h); only = only verb.Threeterm }
-
-pub upgrade_shape : IsShape verb.Upgrade AreNone (λ _. Upgrade)
-upgrade_shape = record { verb = λ a. refl; arguments = λ a words. (λ h. h, λ h. h); only = only verb.Upgrade }
-
-pub decide_shape : IsShape verb.Decide AreBudgets Decide
-decide_shape = record { verb = λ a. refl; arguments = λ a words. (λ h. h, λ h. h); only = only verb.Decide }
-
-pub check_shape : IsShape verb.Check AreNone (λ _. Check)
-check_shape = record { verb = λ a. refl; arguments = λ a words. (λ h. h, λ h. h); only = only verb.Check }
-
-pub make_shape : IsShape verb.Make AreSeedAndCount (λ made. Make made.0 made.1)
-make_shape = record { verb = λ a. refl; arguments = λ a words. (λ h. h, λ h. h); only = only verb.Make }
+-- or they aren't, and the word at fault is passed on
+pub fault_named : (v u : Verb) (words : List (List ℕ)) (result : Result (Value v) Usage) (e : Usage)
+    (passed : Result Task Usage) → u ≡ v → IsRead (IsReadAs v) words result → result ≡ Err e
+    → IsErrAnd passed (λ f. f ≡ e) → AreNamed u words passed
+fault_named v u words result e passed same read is err =
+    rw same (err_passed v (IsReadAs v) (task_of v) words result e passed (shape v) read is err)
