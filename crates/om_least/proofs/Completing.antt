@@ -1,18 +1,21 @@
 -- The first entries of signed permutations.
 --
--- Main results: they can be completed (completed), the next entry (next_entry), and one more (one_more).
+-- Main definitions: IsFilled
+-- Main results: they can be completed (completed), element by element (filled_start, filled_with, filled_without,
+-- filled_end), the next entry (next_entry), and one more (one_more).
 use Rattle.std.proofs.Common.{ℕ, zero, suc, ◌≡◌, ◌+◌, ◌-◌, ◌<◌, ◌≤◌, ◌⊎◌, List, [], ◌∷◌, ◌++◌, length, get_or, take}
 use Rattle.std.proofs.Common.{refl, sym, ap, subst, ◌∙◌, inl, inr, arith, false}
-use Rattle.std.proofs.lemmas.Bool.{cases_eq}
+use Rattle.std.proofs.lemmas.Bool.{cases_eq, cases_lt}
 use Rattle.std.proofs.lemmas.List.{length-append, length-map, length_push, take-take, take_at, take_all, take_more}
 use Rattle.std.proofs.lemmas.List.{map_push, get_or-take}
 use Rattle.om_laws.specs.Members.{IsMember, IsDistinct}
 use Rattle.om_laws.specs.Sorting.{IsElement, Each}
 use Rattle.om_laws.proofs.MemberLaws.{split_at, member_or_not, member_drop, member_last, distinct_last}
+use Rattle.om_laws.proofs.MemberLaws.{member_left, member_middle}
 use Rattle.om_laws.proofs.TupleSizes.{each_member, each_from}
 use Rattle.om_symmetry.specs.declared.signed_element.SignedElement.{SignedElement}
 use Rattle.om_symmetry.specs.Permutations.{IsSignedPermutation, elements_of, signed_at, element_at, no_element}
-use Rattle.om_symmetry.proofs.Distinct.{place_of}
+use Rattle.om_symmetry.proofs.Distinct.{place_of, few_distinct}
 use Rattle.om_symmetry.proofs.Places.{element_listed, permutation_length, element_within, element_apart}
 use Rattle.om_least.specs.Beginnings.{IsBeginning}
 
@@ -107,6 +110,64 @@ completed_by n (suc d) w h q =
 pub completed : (n : ℕ) (w : List SignedElement) → IsBeginning n w → length w ≤ n
     → (v : List SignedElement) × IsSignedPermutation n v × (take (length w) v ≡ w)
 completed n w h l = completed_by n (n - length w) w h (omega arith)
+
+-- ---- completion, element by element
+
+-- u begins with w, and the elements before e are in it
+pub record IsFilled (n : ℕ) (w u : List SignedElement) (e : ℕ) : Type 0 where
+  pub begun : IsBeginning n u
+  pub begins : take (length w) u ≡ w
+  pub longer : length w ≤ length u
+  pub has : (f : ℕ) → IsElement n f → f < e → IsMember f (elements_of u)
+
+pub filled_start : (n : ℕ) (w : List SignedElement) → IsBeginning n w → IsFilled n w w 1
+filled_start n w b = record {
+  begun = b;
+  begins = take_all (length w) w (omega arith);
+  longer = omega arith;
+  has = λ f i lt. let low = i.0 in absurd (omega arith);
+}
+
+module _ (n : ℕ) (w u : List SignedElement) (e : ℕ) (h : IsFilled n w u e) where
+  -- an element that isn't in the list has room behind it
+  pub room_behind : IsElement n e → (IsMember e (elements_of u) → ⊥) → length u < n
+  room_behind i off =
+      let few = few_distinct n (e ∷ elements_of u) (off, h.begun.distinct) (i, h.begun.within) in
+      let size = length-map u (λ (a : SignedElement). a.element) in
+      omega arith
+
+  pub filled_without : IsMember e (elements_of u) → IsFilled n w u (e + 1)
+  filled_without m = record {
+    begun = h.begun;
+    begins = h.begins;
+    longer = h.longer;
+    has = λ f i lt. elim (cases_lt f e) [
+      | inl before ↦ h.has f i before
+      | inr ge ↦ let here : e ≡ f = omega arith in subst (λ z. IsMember z (elements_of u)) here m
+    ];
+  }
+
+  pub filled_with : (a : SignedElement) → a.element ≡ e → IsElement n e → (IsMember e (elements_of u) → ⊥)
+      → IsFilled n w (u ++ a ∷ []) (e + 1)
+  filled_with a q i off = record {
+    begun = one_more n u a h.begun (subst (IsElement n) (sym q) i)
+        (λ m. off (subst (λ z. IsMember z (elements_of u)) q m));
+    begins = sym (take-take (length w) (length u) (u ++ a ∷ []) h.longer)
+        ∙ ap (take (length w)) (take_at u (a ∷ []) (length u) refl) ∙ h.begins;
+    longer = (let l = length_push u a in let k = h.longer in omega arith);
+    has = λ f i lt. subst (IsMember f) (sym (elements_push u a)) (elim (cases_lt f e) [
+      | inl before ↦ member_left f (elements_of u) (a.element ∷ []) (h.has f i before)
+      | inr ge ↦
+          let here : a.element ≡ f = q ∙ omega arith in
+          subst (λ z. IsMember z (elements_of u ++ a.element ∷ [])) here (member_middle a.element (elements_of u) [])
+    ]);
+  }
+
+  pub filled_end : n < e → IsSignedPermutation n u
+  filled_end over =
+      let many = covered n (elements_of u) (λ f i. let high = i.1 in h.has f i (omega arith)) in
+      let few = few_distinct n (elements_of u) h.begun.distinct h.begun.within in
+      record { tuple = record { size = omega arith; within = h.begun.within }; distinct = h.begun.distinct }
 
 -- ---- the next entry of a signed permutation
 

@@ -1,12 +1,12 @@
 -- The search over signed permutations, entry by entry.
 --
 -- Main definitions: IsTried, IsComparable
--- Main results: first signs before those of the map (not_least), behind them (passed_over) and the same to the end
--- (least_at_end); what holds with each next entry holds (least_by_entries), and the other way round (least_with); one
--- more entry (comparable), and no entry (tied_at_start, nothing_listed).
+-- Main results: first signs before those of the map (image_before, not_least), behind them (passed_over) and the same
+-- to the end (least_at_end); what holds with each next entry holds (least_by_entries); one more entry (comparable), and
+-- no entry (tied_at_start, nothing_listed).
 use Rattle.std.proofs.Common.{ℕ, suc, ◌≡◌, ◌+◌, ◌-◌, ◌<◌, ◌≤◌, Bool, true, false, List, [], ◌∷◌, ◌++◌, length, take}
 use Rattle.std.proofs.Common.{refl, sym, ap, subst, ◌∙◌, arith}
-use Rattle.std.specs.declared.cmp.Ordering.TheVariants.{Less, Greater}
+use Rattle.std.specs.declared.cmp.Ordering.TheVariants.{Greater}
 use Rattle.std.specs.Ordering.{ordering_then}
 use Rattle.std.proofs.lemmas.List.{length_push, take_all}
 use Rattle.om_signs.specs.declared.sign.Sign.{Sign}
@@ -18,21 +18,27 @@ use Rattle.om_laws.specs.Sorting.{IsElement}
 use Rattle.om_laws.specs.Tuples.{value}
 use Rattle.om_chirotope.specs.Map.{SignMap, chi_of, value_of}
 use Rattle.om_symmetry.specs.declared.signed_element.SignedElement.{SignedElement}
-use Rattle.om_symmetry.specs.Permutations.{elements_of, signed_at, image_value}
+use Rattle.om_symmetry.specs.Permutations.{IsSignedPermutation, elements_of, signed_at}
+use Rattle.om_symmetry.specs.Permutations.{image_value, acted}
 use Rattle.om_symmetry.proofs.Places.{permutation_length}
-use Rattle.om_least.specs.Beginnings.{IsBeginning, IsLeastBehind, first_signs, first_image_signs}
+use Rattle.om_least.specs.Least.{IsBefore, IsLeast}
+use Rattle.om_least.specs.Beginnings.{IsBeginning, IsLeastBehind, BeginsBefore, first_signs, first_image_signs}
 use Rattle.om_least.proofs.Orders.{greater_not_less, equal_not_less}
 use Rattle.om_least.proofs.Reverse.{same_in_reverse}
-use Rattle.om_least.proofs.Completing.{completed, begins_shorter, next_begins, next_within, next_off, one_more}
+use Rattle.om_least.proofs.Completing.{completed, next_begins, next_within, next_off, one_more}
 use Rattle.om_least.proofs.FirstSigns.{order_behind, order_of_all, tied_on}
 
 module _ (m : SignMap) (w : List SignedElement) where
-  pub not_least : IsBeginning m.elements w → length w ≤ m.elements
-      → lexicographic (first_image_signs m w) (first_signs m (length w)) ≡ Less → IsLeastBehind m w → ⊥
-  not_least b le less h =
-      let v = completed m.elements w b le in
-      let o = order_behind m w v.0 v.1 v.2 le in
-      h v.0 v.1 v.2 (o.1 ∙ ap (λ p. ordering_then p o.0) less)
+  pub image_before : BeginsBefore m w → (v : List SignedElement) → IsSignedPermutation m.elements v
+      → take (length w) v ≡ w → IsBefore (acted v m) m
+  image_before b v p q =
+      let o = order_behind m w v p q b.few in
+      o.1 ∙ ap (λ p. ordering_then p o.0) b.before
+
+  pub not_least : BeginsBefore m w → IsLeast m → ⊥
+  not_least b h =
+      let v = completed m.elements w b.begun b.few in
+      h v.0 v.1 (image_before b v.0 v.1 v.2)
 
   pub passed_over : length w ≤ m.elements
       → lexicographic (first_image_signs m w) (first_signs m (length w)) ≡ Greater → IsLeastBehind m w
@@ -48,9 +54,6 @@ module _ (m : SignMap) (w : List SignedElement) where
       subst (λ u. first_image_signs m u ≡ first_signs m (length u)) (sym same) tied in
       equal_not_less
       (sym (order_of_all m v p ∙ order_of_same (first_image_signs m v) (first_signs m (length v)) tied') ∙ before)
-
-  pub least_with : (a : SignedElement) → IsLeastBehind m w → IsLeastBehind m (w ++ a ∷ [])
-  least_with a h v p q = h v p (begins_shorter w v a q)
 
   by_negation : (P : SignedElement → Type 0) (e : ℕ) (b : Bool) → P (record { element = e; negated = false })
       → P (record { element = e; negated = true }) → P (record { element = e; negated = b })

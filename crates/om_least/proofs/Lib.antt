@@ -9,3 +9,4 @@ pub mod Increasing
 pub mod Completing
 pub mod FirstSigns
 pub mod Entries
+pub mod Numbers

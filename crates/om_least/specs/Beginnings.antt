@@ -1,6 +1,8 @@
 -- The first entries of signed permutations, and the signs of images that depend on them alone.
-use Rattle.std.specs.Prelude.{ℕ, ◌≡◌, List, length, map, take}
+use Rattle.std.specs.Prelude.{ℕ, ◌≡◌, ◌≤◌, List, length, map, take}
+use Rattle.std.specs.declared.cmp.Ordering.TheVariants.{Less}
 use Rattle.om_signs.specs.declared.sign.Sign.{Sign}
+use Rattle.om_signs.specs.Order.{lexicographic}
 use Rattle.om_subsets.specs.Reverse.{revlex_subsets}
 use Rattle.om_laws.specs.Members.{IsDistinct}
 use Rattle.om_laws.specs.Sorting.{IsElement, Each}
@@ -26,3 +28,9 @@ first_image_signs m w = map (image_value w (value_of m)) (revlex_subsets (length
 abbrev pub IsLeastBehind : SignMap → List SignedElement → Type 0
 IsLeastBehind m w = (v : List SignedElement) → IsSignedPermutation m.elements v → take (length w) v ≡ w
     → IsBefore (acted v m) m → ⊥
+
+-- the images under the signed permutations that begin with w come before the map: their first signs do
+pub record BeginsBefore (m : SignMap) (w : List SignedElement) : Type 0 where
+  pub begun : IsBeginning m.elements w
+  pub few : length w ≤ m.elements
+  pub before : lexicographic (first_image_signs m w) (first_signs m (length w)) ≡ Less

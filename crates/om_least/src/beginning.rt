@@ -78,6 +78,13 @@ impl Beginning {
         self.table[place as usize - 1]
     }
 
+    /// The entries as a slice.
+    pub fn as_slice(&self) -> &[SignedElement]
+        ensures { result.now ≡ self.now }
+    {
+        &self.table[..self.len as usize]
+    }
+
     /// Whether an element, or its negative, is among the entries.
     pub fn has(&self, element: u8) -> bool
         ensures { IsTrue result ↔ IsMember element (elements_of self.now) }

@@ -7,11 +7,13 @@
 
 mod beginning;
 mod comparing;
+mod image;
 mod laws;
 mod order;
 mod search;
 mod values;
 
+pub use image::least_image;
 pub use laws::{exactly_one_of_each_class, isomorphic_least_maps, places_of_least_maps};
 pub use order::is_before;
 pub use search::is_least;

@@ -1,10 +1,10 @@
 //! The search for an image that comes before a chirotope: over the signed permutations, entry by entry.
 
-ghost use Rattle.std.specs.Prelude.{◌≡◌, ◌≤◌, ◌-◌, ◌↔◌, length, take, IsTrue};
+ghost use Rattle.std.specs.Prelude.{◌≡◌, ◌≤◌, ◌-◌, ◌↔◌, length, take, IsTrue, IfSome, IfNone};
 ghost use Rattle.om_subsets.specs.Subsets.{choose};
 ghost use Rattle.om_least.specs.Least.{IsLeast};
 ghost use Rattle.om_least.specs.Triples.{IsTableOfValues};
-ghost use Rattle.om_least.specs.Beginnings.{IsBeginning, IsLeastBehind, first_signs, first_image_signs};
+ghost use Rattle.om_least.specs.Beginnings.{IsBeginning, IsLeastBehind, BeginsBefore, first_signs, first_image_signs};
 
 use super::beginning::Beginning;
 use super::comparing::compared;
@@ -25,28 +25,37 @@ use std::cmp::Ordering;
 pub fn is_least(chi: &Chirotope) -> bool
     ensures { IsTrue result ↔ IsLeast chi.now }
 {
+    lesser_beginning(chi).is_none()
+}
+
+/// The first entries of signed permutations under which the image comes before the chirotope, or None if it is least.
+pub(crate) fn lesser_beginning(chi: &Chirotope) -> Option<Beginning>
+    ensures before { IfSome result (BeginsBefore chi.now) }
+    ensures least { IfNone result (IsLeast chi.now) }
+{
     let values = if chi.rank() == 3 {
         values_of(chi)
     } else {
         // no value is looked up in the table
         [Sign::Zero; TRIPLES]
     };
-    is_least_behind(chi, &values, &Beginning::empty())
+    lesser_behind(chi, &values, &Beginning::empty())
 }
 
-/// Whether no image under a signed permutation that begins with these entries comes before the chirotope. The first
-/// signs of such an image are those of the chirotope.
+/// The first entries of signed permutations under which the image comes before the chirotope, beginning with these
+/// entries, or None if there are none. The first signs of an image that begins so are those of the chirotope.
 #[cycle(walk)]
-fn is_least_behind(chi: &Chirotope, values: &[Sign], beginning: &Beginning) -> bool
+fn lesser_behind(chi: &Chirotope, values: &[Sign], beginning: &Beginning) -> Option<Beginning>
     requires begun { IsBeginning chi.now.elements beginning.now }
     requires few { length beginning.now ≤ chi.now.elements }
     requires tied { first_image_signs chi.now beginning.now ≡ first_signs chi.now (length beginning.now) }
     requires table { chi.now.rank ≡ 3 → IsTableOfValues chi.now values.now }
-    ensures { IsTrue result ↔ IsLeastBehind chi.now beginning.now }
+    ensures before { IfSome result (BeginsBefore chi.now) }
+    ensures least { IfNone result (IsLeastBehind chi.now beginning.now) }
 {
     let elements = chi.elements();
     if beginning.len() == elements {
-        return true;
+        return None;
     }
     for element in 1..elements + 1 {
         if !beginning.has(element) {
@@ -54,36 +63,38 @@ fn is_least_behind(chi: &Chirotope, values: &[Sign], beginning: &Beginning) -> b
                 element,
                 negated: false,
             };
-            if !is_least_with(chi, values, &beginning.followed_by(plain)) {
-                return false;
+            if let Some(lesser) = lesser_with(chi, values, beginning.followed_by(plain)) {
+                return Some(lesser);
             }
             let negative = SignedElement {
                 element,
                 negated: true,
             };
-            if !is_least_with(chi, values, &beginning.followed_by(negative)) {
-                return false;
+            if let Some(lesser) = lesser_with(chi, values, beginning.followed_by(negative)) {
+                return Some(lesser);
             }
         }
     }
-    true
+    None
 }
 
-/// Whether no image under a signed permutation that begins with these entries comes before the chirotope. The first
-/// signs of such an image, but those of the sets with the last of these elements, are those of the chirotope.
+/// The first entries of signed permutations under which the image comes before the chirotope, beginning with these
+/// entries, or None if there are none. The first signs of an image that begins so, but those of the sets with the last
+/// of these elements, are those of the chirotope.
 #[cycle(walk)]
-fn is_least_with(chi: &Chirotope, values: &[Sign], beginning: &Beginning) -> bool
-    requires begun { IsBeginning chi.now.elements beginning.now }
-    requires some { 1 ≤ length beginning.now }
-    requires few { length beginning.now ≤ chi.now.elements }
-    requires tied { take (choose (length beginning.now - 1) chi.now.rank) (first_image_signs chi.now beginning.now)
-        ≡ take (choose (length beginning.now - 1) chi.now.rank) (first_signs chi.now (length beginning.now)) }
+fn lesser_with(chi: &Chirotope, values: &[Sign], beginning: Beginning) -> Option<Beginning>
+    requires begun { IsBeginning chi.now.elements beginning }
+    requires some { 1 ≤ length beginning }
+    requires few { length beginning ≤ chi.now.elements }
+    requires tied { take (choose (length beginning - 1) chi.now.rank) (first_image_signs chi.now beginning)
+        ≡ take (choose (length beginning - 1) chi.now.rank) (first_signs chi.now (length beginning)) }
     requires table { chi.now.rank ≡ 3 → IsTableOfValues chi.now values.now }
-    ensures { IsTrue result ↔ IsLeastBehind chi.now beginning.now }
+    ensures before { IfSome result (BeginsBefore chi.now) }
+    ensures least { IfNone result (IsLeastBehind chi.now beginning) }
 {
-    match compared(chi, values, beginning) {
-        Ordering::Less => false,
-        Ordering::Greater => true,
-        Ordering::Equal => is_least_behind(chi, values, beginning),
+    match compared(chi, values, &beginning) {
+        Ordering::Less => Some(beginning),
+        Ordering::Greater => None,
+        Ordering::Equal => lesser_behind(chi, values, &beginning),
     }
 }

@@ -1,26 +1,25 @@
-use Rattle.std.proofs.Common.{◌≡◌, ◌<◌, ◌∙◌, length, refl, sym, subst, inl, inr, arith, true, false}
+use Rattle.std.proofs.Common.{◌≡◌, ◌<◌, ◌∙◌, length, sym, subst, inl, inr, arith, true, false}
 use Rattle.std.proofs.lemmas.Bool.{false≢true, cases_lt}
 use Rattle.om_signs.specs.OrderLaws.{same_from_order}
 use Rattle.om_laws.specs.Members.{IsMember}
 use Rattle.om_symmetry.specs.Permutations.{elements_of}
 use Rattle.om_symmetry.specs.declared.signed_element.SignedElement.{SignedElement}
 use Rattle.om_least.specs.Beginnings.{IsLeastBehind, first_signs, first_image_signs}
-use Rattle.om_least.proofs.Entries.{IsTried, not_least, passed_over, least_at_end, least_with, least_by_entries}
-use Rattle.om_least.proofs.Entries.{comparable, longer}
+use Rattle.om_least.proofs.Entries.{IsTried, passed_over, least_at_end, least_by_entries, comparable, longer}
 use Rattle.om_least.proofs.search.+walk.Goals as goal
-use Rattle.om_least.proofs.search.+walk.Goals.{is_least_behind-else-not-has}
-use Rattle.om_least.proofs.search.+walk.Goals.{is_least_behind-then-not-has+else-not-is_least_with+else-not-is_least_with-2}
+use Rattle.om_least.proofs.search.+walk.Goals.{lesser_behind-else-not-has}
+use Rattle.om_least.proofs.search.+walk.Goals.{lesser_behind-then-not-has+in_default+in_default-lesser_with}
 
-pub is_least_behind-returns-then-len-elements : goal.is_least_behind-returns-then-len-elements
-is_least_behind-returns-then-len-elements t c =
+pub lesser_behind-returns-then-len-elements-clause-least : goal.lesser_behind-returns-then-len-elements-clause-least
+lesser_behind-returns-then-len-elements-clause-least t c =
     let m = c.args.chi.now in
     let w = c.args.beginning.now in
     let all : length w ≡ m.elements = sym c.len.ensures.value ∙ c.if-len-elements.true
     ∙ c.elements-elements.ensures.value in
-    (λ u. least_at_end m w all c.requires.tied, λ h. refl)
+    least_at_end m w all c.requires.tied
 
-pub is_least_behind-is_least_with-requires : goal.is_least_behind-is_least_with-requires
-is_least_behind-is_least_with-requires t c =
+pub lesser_behind-lesser_with-requires : goal.lesser_behind-lesser_with-requires
+lesser_behind-lesser_with-requires t c =
     let m = c.args.chi.now in
     let w = c.args.beginning.now in
     let a : SignedElement = record { element = c.loop-element.element; negated = false } in
@@ -37,18 +36,8 @@ is_least_behind-is_least_with-requires t c =
     (low, omega (arith, value, test)) (λ h. false≢true (sym c.if-not-has.true ∙ c.has.ensures.1 h)) in
     (omega (arith, d, more, l), (r.begun, (r.some, (r.few, (r.tied, c.requires.table)))))
 
-pub is_least_behind-returns-then-not-is_least_with : goal.is_least_behind-returns-then-not-is_least_with
-is_least_behind-returns-then-not-is_least_with t c =
-    let m = c.args.chi.now in
-    let w = c.args.beginning.now in (
-      λ u. absurd (false≢true u),
-      λ h. absurd (false≢true (sym c.if-not-is_least_with.true ∙ c.is_least_with.ensures.1
-          (subst (IsLeastBehind m) (sym c.followed_by.ensures)
-          (least_with m w (record { element = c.loop-element.element; negated = false }) h)))),
-    )
-
-pub is_least_behind-is_least_with-requires-then-not-has : goal.is_least_behind-is_least_with-requires-then-not-has
-is_least_behind-is_least_with-requires-then-not-has t c =
+pub lesser_behind-lesser_with-requires-then-not-has : goal.lesser_behind-lesser_with-requires-then-not-has
+lesser_behind-lesser_with-requires-then-not-has t c =
     let m = c.args.chi.now in
     let w = c.args.beginning.now in
     let a : SignedElement = record { element = c.loop-element.element; negated = true } in
@@ -66,18 +55,8 @@ is_least_behind-is_least_with-requires-then-not-has t c =
     (λ h. false≢true (sym c.if-not-has.true ∙ c.has.ensures.1 h)) in
     (omega (arith, d, more, l), (r.begun, (r.some, (r.few, (r.tied, c.requires.table)))))
 
-pub is_least_behind-returns-then-not-is_least_with-2 : goal.is_least_behind-returns-then-not-is_least_with-2
-is_least_behind-returns-then-not-is_least_with-2 t c =
-    let m = c.args.chi.now in
-    let w = c.args.beginning.now in (
-      λ u. absurd (false≢true u),
-      λ h. absurd (false≢true (sym c.if-not-is_least_with-2.true ∙ c.is_least_with-then-not-has.ensures.1
-          (subst (IsLeastBehind m) (sym c.followed_by-then-not-has.ensures)
-          (least_with m w (record { element = c.loop-element.element; negated = true }) h)))),
-    )
-
-pub is_least_behind-loop-element-preserved : goal.is_least_behind-loop-element-preserved
-is_least_behind-loop-element-preserved t c = λ e i lt off.
+pub lesser_behind-loop-element-preserved : goal.lesser_behind-loop-element-preserved
+lesser_behind-loop-element-preserved t c = λ e i lt off.
     let m = c.args.chi.now in
     let w = c.args.beginning.now in
     elim (cases_lt e c.loop-element.element) [
@@ -85,22 +64,21 @@ is_least_behind-loop-element-preserved t c = λ e i lt off.
       | inr ge ↦
           let here : c.loop-element.element ≡ e = omega (arith, lt, ge) in
           elim c.if-not-has.branch [
-            | is_least_behind-then-not-has+else-not-is_least_with+else-not-is_least_with-2 b ↦
+            | lesser_behind-then-not-has+in_default+in_default-lesser_with b ↦
                 subst (IsTried m w) here
                 (record {
-                  plain = subst (IsLeastBehind m) b.followed_by.ensures
-                      (b.is_least_with.ensures.0 b.if-not-is_least_with.false);
+                  plain = subst (IsLeastBehind m) b.followed_by.ensures b.in_default.ensures.least;
                   negative = subst (IsLeastBehind m) b.followed_by-then-not-has.ensures
-                      (b.is_least_with-then-not-has.ensures.0 b.if-not-is_least_with-2.false);
+                      b.in_default-lesser_with.ensures.least;
                 })
-            | is_least_behind-else-not-has b ↦
+            | lesser_behind-else-not-has b ↦
                 let listed = c.has.ensures.0 b.if-not-has.false in
                 absurd (subst (λ f. IsMember f (elements_of w) → ⊥) (sym here) off listed)
           ]
     ]
 
-pub is_least_behind-returns : goal.is_least_behind-returns
-is_least_behind-returns t c =
+pub lesser_behind-returns-clause-least : goal.lesser_behind-returns-clause-least
+lesser_behind-returns-clause-least t c =
     let m = c.args.chi.now in
     let w = c.args.beginning.now in
     let value = c.elements-elements.ensures.value in
@@ -108,38 +86,18 @@ is_least_behind-returns t c =
     let other = c.if-len-elements.false in
     let few = c.requires.few in
     let over = c.loop-element-test.false in
-    let l : length w < m.elements = omega (arith, value, size, other, few) in (
-      λ u. least_by_entries m w l
-          (λ e i off. let high = i.1 in c.loop-element.invariant e i (omega (arith, value, over, high)) off),
-      λ h. refl,
-    )
+    let l : length w < m.elements = omega (arith, value, size, other, few) in
+    least_by_entries m w l
+    (λ e i off. let high = i.1 in c.loop-element.invariant e i (omega (arith, value, over, high)) off)
 
-pub is_least_with-is_least_behind-requires : goal.is_least_with-is_least_behind-requires
-is_least_with-is_least_behind-requires t c =
+pub lesser_with-lesser_behind-requires : goal.lesser_with-lesser_behind-requires
+lesser_with-lesser_behind-requires t c =
     let m = c.args.chi.now in
-    let w = c.args.beginning.now in
+    let w = c.args.beginning in
     let d = c.decreases in
-    let tied = same_from_order (first_image_signs m w) (first_signs m (length w)) (sym c.in-Equal.ensures) in (
-      omega (arith, d),
-      (
-        c.requires.begun,
-        (
-          c.requires.few,
-          (tied, c.requires.table),
-        ),
-      ),
-    )
+    let tied = same_from_order (first_image_signs m w) (first_signs m (length w)) (sym c.in-Equal.ensures) in
+    (omega (arith, d), (c.requires.begun, (c.requires.few, (tied, c.requires.table))))
 
-pub is_least_with-returns-in-Less : goal.is_least_with-returns-in-Less
-is_least_with-returns-in-Less t c =
-    let m = c.args.chi.now in
-    let w = c.args.beginning.now in (
-      λ u. absurd (false≢true u),
-      λ h. absurd (not_least m w c.requires.begun c.requires.few (sym c.in-Less.ensures) h),
-    )
-
-pub is_least_with-returns-in-Greater : goal.is_least_with-returns-in-Greater
-is_least_with-returns-in-Greater t c =
-    let m = c.args.chi.now in
-    let w = c.args.beginning.now in
-    (λ u. passed_over m w c.requires.few (sym c.in-Greater.ensures), λ h. refl)
+pub lesser_with-returns-in-Greater-clause-least : goal.lesser_with-returns-in-Greater-clause-least
+lesser_with-returns-in-Greater-clause-least t c =
+    passed_over c.args.chi.now c.args.beginning c.requires.few (sym c.in-Greater.ensures)

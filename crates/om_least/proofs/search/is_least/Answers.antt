@@ -1,21 +1,21 @@
-use Rattle.std.proofs.Common.{◌∙◌, length, refl, sym, ap, subst}
-use Rattle.om_least.specs.Beginnings.{IsBeginning, IsLeastBehind, first_signs, first_image_signs}
-use Rattle.om_least.proofs.Entries.{tied_at_start, nothing_listed}
+use Rattle.std.proofs.Common.{◌≡◌, ◌↔◌, List, Option, Some, None, Bool, true, false, not, IsTrue, IfSome, IfNone, is_some}
+use Rattle.std.proofs.Common.{refl}
+use Rattle.std.proofs.lemmas.Bool.{false≢true}
+use Rattle.om_chirotope.specs.Map.{SignMap}
+use Rattle.om_symmetry.specs.declared.signed_element.SignedElement.{SignedElement}
+use Rattle.om_least.specs.Least.{IsLeast}
+use Rattle.om_least.specs.Beginnings.{BeginsBefore}
+use Rattle.om_least.proofs.Entries.{not_least}
 use Rattle.om_least.proofs.search.is_least.Goals as goal
 
-pub is_least_behind-requires-clause-begun : goal.is_least_behind-requires-clause-begun
-is_least_behind-requires-clause-begun c =
-    subst (IsBeginning c.args.chi.now.elements) (sym c.empty.ensures) (nothing_listed c.args.chi.now.elements)
-
-pub is_least_behind-requires-clause-tied : goal.is_least_behind-requires-clause-tied
-is_least_behind-requires-clause-tied c =
-    let m = c.args.chi.now in
-    ap (first_image_signs m) c.empty.ensures ∙ tied_at_start m
-    ∙ sym (ap (λ w. first_signs m (length w)) c.empty.ensures)
+least_if_none : (m : SignMap) (found : Option (List SignedElement)) (b : Bool) → is_some found ≡ not b
+    → IfSome found (BeginsBefore m) → IfNone found (IsLeast m) → IsTrue b ↔ IsLeast m
+least_if_none m None true e before least = (λ t. least, λ h. refl)
+least_if_none m None false e before least = absurd (false≢true e)
+least_if_none m (Some w) true e before least = cc
+least_if_none m (Some w) false e before least = (λ t. absurd (false≢true t), λ h. absurd (not_least m w before h))
 
 pub returns : goal.returns
 returns c =
-    let m = c.args.chi.now in (
-      λ t v p. subst (IsLeastBehind m) c.empty.ensures (c.is_least_behind.ensures.0 t) v p refl,
-      λ h. c.is_least_behind.ensures.1 (subst (IsLeastBehind m) (sym c.empty.ensures) (λ v p q. h v p)),
-    )
+    least_if_none c.args.chi.now c.lesser_beginning.result c.is_none.result c.is_none.ensures
+    c.lesser_beginning.ensures.before c.lesser_beginning.ensures.least
