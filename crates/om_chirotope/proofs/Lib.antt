@@ -25,3 +25,5 @@ pub mod FewValues
 pub mod PairCounts
 pub mod FoundPairs
 pub mod Placed
+pub mod NumberedSets
+pub mod Apart

@@ -1,11 +1,11 @@
 -- The sets that calls give for the numbers of a lent map, as sets of the map that contracts see.
 --
--- Main results: placed, the set at a place; at_placed, where a walk over the sets begins.
+-- Main results: placed, the set at a place; turn_placed, the set of a turn of a walk.
 use Rattle.std.specs.Prelude.{ℕ, ◌≡◌, length}
 use Rattle.std.proofs.Common.{subst}
 use Rattle.om_subsets.specs.Subsets.{rank_of, IsSubsetFrom}
 use Rattle.om_subsets.specs.Members.{Chosen}
-use Rattle.om_subsets.proofs.Walks.{IsAt}
+use Rattle.om_subsets.proofs.SetChains.{IsTurn}
 use Rattle.om_chirotope.specs.Map.{SignMap}
 
 -- the set at place k of those of r of the elements 1 to n
@@ -22,5 +22,11 @@ pub placed : (r : SignMap → ℕ) (m w : SignMap) (k : ℕ) (a : Chosen) → m 
 placed r m w k a same n size list place =
     subst (λ v. IsPlaced v.elements (r v) k a) same (record { n_is = n; size = size; list = list; place = place })
 
-pub at_placed : (n r k : ℕ) (a : Chosen) → IsPlaced n r k a → IsAt n r k a
-at_placed n r k a p = record { n_is = p.n_is; size = p.size; list = p.list; place = λ l. p.place }
+-- the set of a turn stands at the place of the turn
+pub turn_placed : (n r k : ℕ) (a : Chosen) → IsTurn n r k a → IsPlaced n r k a
+turn_placed n r k a turn = record {
+  n_is = turn.at.n_is;
+  size = turn.at.size;
+  list = turn.at.list;
+  place = turn.at.place turn.inside;
+}

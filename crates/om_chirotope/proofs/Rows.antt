@@ -1,8 +1,8 @@
 -- The rows of the pictures of a map: the row of an element, the relations of all lists, and the rows that a loop has
 -- written.
 --
--- Main definitions: AreBalancedBelow, AreWritten
--- Main results: row_even, row_odd, relations_of_pictures, pictures_more, filled_zero, none_written, rows_more,
+-- Main definitions: AreWritten
+-- Main results: row_even, row_odd, relations_of_pictures, filled_zero, none_written, rows_more,
 -- rows_skip
 use Rattle.std.specs.Prelude.{ℕ, ◌≡◌, ◌≢◌, ◌+◌, ◌-◌, ◌%◌, ◌<◌, ◌≤◌, ◌⊎◌, List, [], ◌∷◌, ◌++◌, length, map, refl}
 use Rattle.std.proofs.Common.{sym, ◌∙◌, ap, arith, inl, inr, subst, get_or, set, replicate, zero, suc, append_assoc}
@@ -16,8 +16,7 @@ use Rattle.om_signs.specs.declared.sign.Sign.TheVariants.{Minus, Zero, Plus}
 use Rattle.om_signs.specs.Sign.{opposite, product}
 use Rattle.om_signs.specs.SignVec.{at}
 use Rattle.om_signs.proofs.SignLaws.{product-opposite_left}
-use Rattle.om_subsets.specs.Subsets.{choose, rank_of, IsSubsetFrom, IsMember, with_element, count_above}
-use Rattle.om_subsets.proofs.Order.{same_place, rank_from-lt}
+use Rattle.om_subsets.specs.Subsets.{IsSubsetFrom, IsMember, with_element, count_above}
 use Rattle.om_laws.specs.Bridge.{as_list}
 use Rattle.om_laws.specs.Relations.{along}
 use Rattle.om_laws.specs.Signs.{negated_times}
@@ -32,11 +31,6 @@ use Rattle.om_chirotope.specs.ThreeTerm.{HasThreeTermRelations}
 use Rattle.om_chirotope.specs.Pictures.{AreRowsBelow, HasRelationsAt, IsBalancedTriple}
 use Rattle.om_chirotope.proofs.Circuits.{parity_sign-suc, count_below}
 use Rattle.om_chirotope.proofs.Places.{vector_is}
-
--- the relations of the first k lists P hold
-abbrev pub AreBalancedBelow : SignMap → ℕ → Type 0
-AreBalancedBelow m k = (p : List ℕ) → IsSubsetFrom 1 m.elements p → length p + 2 ≡ m.rank → rank_of m.elements p < k
-    → HasRelationsAt m p
 
 -- ---- the row of an element: the vector of P with it, negated where the number of later elements of P is odd
 
@@ -129,16 +123,12 @@ module _ (m : SignMap) (p : List ℕ) (x : ℕ) (h : IsSubsetFrom 1 m.elements p
 
 -- ---- the relations of all lists P
 
-pub relations_of_pictures : (m : SignMap) (k : ℕ) → choose m.elements (m.rank - 2) ≤ k → AreBalancedBelow m k
-    → HasThreeTermRelations m
-relations_of_pictures m k le all p a b c d f =
-    let size = f.size in
-    let sized : length p ≡ m.rank - 2 = omega arith in
-    let few : rank_of m.elements p < choose m.elements (m.rank - 2) =
-    subst (λ i. rank_of m.elements p < choose m.elements i) sized (rank_from-lt 1 m.elements p f.list) in
+pub relations_of_pictures : (m : SignMap) → ((p : List ℕ) → IsSubsetFrom 1 m.elements p → length p + 2 ≡ m.rank
+    → HasRelationsAt m p) → HasThreeTermRelations m
+relations_of_pictures m all p a b c d f =
     let each = ((subset_is_increasing m.elements (a ∷ b ∷ c ∷ d ∷ [])).0 f.four).1 in
     let d_in = each d (inr (inr (inr (inl refl)))) in
-    swapped (all p f.list f.size (omega arith) a b c (each a (inl refl)) (each b (inr (inl refl)))
+    swapped (all p f.list f.size a b c (each a (inl refl)) (each b (inr (inl refl)))
     (each c (inr (inr (inl refl))))) d d_in.0 d_in.1
   where
     swapped : IsBalancedTriple m p a b c → (d : ℕ) → 1 ≤ d → d ≤ m.elements
@@ -146,15 +136,6 @@ relations_of_pictures m k le all p a b c d f =
         (opposite (product (value_of m (p ++ a ∷ c ∷ [])) (value_of m (p ++ b ∷ d ∷ []))))
         (product (value_of m (p ++ a ∷ d ∷ [])) (value_of m (p ++ b ∷ c ∷ [])))
     swapped t d low high = t.each d low high
-
-pub pictures_more : (m : SignMap) (p : List ℕ) (k : ℕ) → IsSubsetFrom 1 m.elements p → length p + 2 ≡ m.rank
-    → rank_of m.elements p ≡ k → HasRelationsAt m p → AreBalancedBelow m k → AreBalancedBelow m (k + 1)
-pictures_more m p k hp lp rp here all q hq lq rq = elim (cases_eq (rank_of m.elements q) k) [
-  | inl e ↦
-      let same : q ≡ p = same_place m.elements q p hq hp (omega arith) (e ∙ sym rp) in
-      subst (HasRelationsAt m) (sym same) here
-  | inr n ↦ all q hq lq (omega arith)
-]
 
 -- ---- what the loops keep
 

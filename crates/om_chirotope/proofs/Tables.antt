@@ -1,6 +1,6 @@
 -- What the table of the vectors U says of the pairs with a set S.
 --
--- Main results: table_done, table_held; all_more and all_held for the scan over the sets S; no_pairs_above,
+-- Main results: table_done, table_held, all_done and found, for the scan over the sets S; no_pairs_above,
 -- no_pairs_of_rank_zero and part_before; some_rank and rank_below; taken_size,
 -- taken_within and taken_room.
 use Rattle.std.specs.Prelude.{ℕ, ◌≡◌, ◌+◌, ◌-◌, ◌*◌, ◌<◌, ◌≤◌, List, [], length, take}
@@ -12,7 +12,7 @@ use Rattle.om_signs.specs.declared.sign.Sign.{Sign}
 use Rattle.om_signs.specs.SignVec.{IsOrthogonal}
 use Rattle.om_subsets.specs.Subsets.{choose, all_subsets, subset_at, rank_of, IsSubsetFrom}
 use Rattle.om_subsets.specs.Members.{Chosen}
-use Rattle.om_subsets.proofs.Order.{length-subsets_from, rank_from-lt, get_or-rank_from, lexicographic, same_place}
+use Rattle.om_subsets.proofs.Order.{length-subsets_from, rank_from-lt, get_or-rank_from, lexicographic}
 use Rattle.om_subsets.proofs.Table.{choose_above}
 use Rattle.om_laws.specs.Relations.{around, along}
 use Rattle.om_laws.proofs.BridgeLaws.{length-as_list}
@@ -88,19 +88,6 @@ table_held m s b k o h l lt =
 abbrev pub AllBelow : SignMap → ℕ → Type 0
 AllBelow m k = (t b : List ℕ) → IsPair m t b → rank_of m.elements t < k → IsOrthogonalPair m t b
 
-pub all_more : (m : SignMap) (s : List ℕ) (k : ℕ) → IsSubsetFrom 1 m.elements s → length s ≡ m.rank + 1
-    → rank_of m.elements s ≡ k
-    → ((j : ℕ) → j < length (cocircuit_vectors m)
-    → IsOrthogonal (circuit_vector m s) (get_or (cocircuit_vectors m) j [])) → AllBelow m k → AllBelow m (k + 1)
-all_more m s k hs ls rs o all t b p lt = elim (cases_eq (rank_of m.elements t) k) [
-  | inl e ↦
-      let q : t ≡ s = same_place m.elements t s p.s_list hs (p.s_size ∙ sym ls) (e ∙ sym rs) in
-      let few = (vector_of_place m b p.a_list p.a_size).0 in
-      let size = length-table m in
-      rw q (table_held m s b (length (cocircuit_vectors m)) o p.a_list p.a_size (omega arith))
-  | inr n ↦ all t b p (omega arith)
-]
-
 pub all_done : (m : SignMap) (k : ℕ) → choose m.elements (m.rank + 1) ≤ k → AllBelow m k → HasOrthogonalPairs m
 all_done m k le all s a p =
     let few : rank_of m.elements s < choose m.elements (m.rank + 1) =
@@ -137,19 +124,6 @@ found m s a turn k u table sn an p rs ra eu et v o all = record {
     held : (j : ℕ) → j < k → IsOrthogonal (circuit_vector m s.elements) (get_or (cocircuit_vectors m) j [])
     held j l = subst (λ w. IsOrthogonal w (get_or (cocircuit_vectors m) j [])) eu
         (subst (λ t. IsOrthogonal u (get_or t j [])) et (o j l))
-
-pub all_held : (m : SignMap) (s : List ℕ) (k : ℕ) (u : List Sign) (table : List (List Sign))
-    → IsSubsetFrom 1 m.elements s → length s ≡ m.rank + 1 → rank_of m.elements s ≡ k → u ≡ circuit_vector m s
-    → table ≡ cocircuit_vectors m → ((j : ℕ) → j < length table → IsOrthogonal u (get_or table j [])) → AllBelow m k
-    → AllBelow m (k + 1)
-all_held m s k u table hs ls rs eu et o all = all_more m s k hs ls rs held all
-  where
-    held : (j : ℕ) → j < length (cocircuit_vectors m)
-        → IsOrthogonal (circuit_vector m s) (get_or (cocircuit_vectors m) j [])
-    held j l =
-        let e = ap length et in
-        subst (λ w. IsOrthogonal w (get_or (cocircuit_vectors m) j [])) eu
-        (subst (λ t. IsOrthogonal u (get_or t j [])) et (o j (omega arith)))
 
 pub table_lengths : (m : SignMap) (s : List ℕ) (u : List Sign) (table : List (List Sign)) → u ≡ circuit_vector m s
     → table ≡ cocircuit_vectors m → (k : ℕ) → k < length table → length u ≡ length (get_or table k [])

@@ -4,4 +4,5 @@ pub mod ThreeTerm
 pub mod Marks
 pub mod Pictures
 pub mod Blocks
+pub mod Apart
 pub mod Settlement

@@ -1,10 +1,10 @@
 //! The table of the vectors U of a map.
 
-ghost use Rattle.std.specs.Prelude.{ℕ, ◌≡◌, ◌+◌, ◌-◌, ◌<◌, ◌≤◌, [], length, take, IfNone, IfSome};
-ghost use Rattle.std.proofs.Math.ListN.{get_or};
+ghost use Rattle.std.specs.Prelude.{◌≡◌, ◌+◌, ◌-◌, ◌≤◌, length, take, IfNone, IfSome};
 ghost use Rattle.om_signs.specs.SignVec.{IsOrthogonal};
 ghost use Rattle.om_subsets.specs.Subsets.{choose, rank_of, IsSubsetFrom};
 ghost use Rattle.om_chirotope.specs.Map.{cocircuit_vector, cocircuit_vectors};
+ghost use Rattle.om_chirotope.specs.Apart.{IsOrthogonalToAll, IsFirstApart};
 
 use super::whole_map::WholeMap;
 use om_signs::{MAX_ELEMENTS, SignVec};
@@ -26,10 +26,8 @@ pub fn fill(map: &WholeMap, table: &mut [SignVec])
     requires room { length table.old ≡ choose map.now.elements (map.now.rank - 1) }
     ensures { table.new ≡ cocircuit_vectors map.now }
 {
-    let mut a = Subset::first(map.raw.rank - 1, map.raw.elements);
-    for place in 0..Subset::choose(map.raw.elements, map.raw.rank - 1) {
-        table[place as usize] = map.cocircuit_of(a);
-        a = a.following();
+    for (place, a) in Subset::all(map.raw.rank - 1, map.raw.elements).enumerate() {
+        table[place] = map.cocircuit_of(a);
     }
 }
 
@@ -50,48 +48,41 @@ pub fn cocircuit_at(map: &WholeMap, table: &[SignVec], a: Subset, place: u32) ->
 }
 
 /// Fills the table with the vectors U of all sets of one element less than the rank, in lexicographic order. It
-/// stops at the first that isn't orthogonal to a given vector. Returns the place of this one, or None if all are
+/// stops at the first that isn't orthogonal to a given vector. Returns the set of this one, or None if all are
 /// orthogonal.
-pub fn fill_while_orthogonal(map: &WholeMap, vector: SignVec, table: &mut [SignVec]) -> Option<u32>
+pub fn fill_while_orthogonal(
+    map: &WholeMap,
+    vector: SignVec,
+    table: &mut [SignVec],
+) -> Option<Subset>
     requires rank_low { 1 ≤ map.now.rank }
     requires room { length table.old ≡ choose map.now.elements (map.now.rank - 1) }
     requires vector { length vector ≡ map.now.elements }
     ensures none { IfNone result (table.new ≡ cocircuit_vectors map.now) }
-    ensures within { IfSome result (λ k. k < choose map.now.elements (map.now.rank - 1)) }
-    ensures here { IfSome result (λ k. IsOrthogonal vector (get_or (cocircuit_vectors map.now) k []) → ⊥) }
-    ensures before { IfSome result
-        (λ k. (j : ℕ) → j < k → IsOrthogonal vector (get_or (cocircuit_vectors map.now) j [])) }
+    ensures first { IfSome result (IsFirstApart map.now vector) }
 {
-    let mut a = Subset::first(map.raw.rank - 1, map.raw.elements);
-    for place in 0..Subset::choose(map.raw.elements, map.raw.rank - 1) {
+    for (place, a) in Subset::all(map.raw.rank - 1, map.raw.elements).enumerate() {
         let other = map.cocircuit_of(a);
         if !vector.orthogonal(other) {
-            return Some(place);
+            return Some(a);
         }
-        table[place as usize] = other;
-        a = a.following();
+        table[place] = other;
     }
     None
 }
 
-/// The place of the first set of one element less than the rank, in lexicographic order, whose vector U isn't
-/// orthogonal to a given vector. None if all are orthogonal. It needs no table.
-pub fn first_not_orthogonal_to(map: &WholeMap, vector: SignVec) -> Option<u32>
+/// The first set of one element less than the rank, in lexicographic order, whose vector U isn't orthogonal to a
+/// given vector. None if all are orthogonal. It needs no table.
+pub fn first_apart_from(map: &WholeMap, vector: SignVec) -> Option<Subset>
     requires rank_low { 1 ≤ map.now.rank }
     requires vector { length vector ≡ map.now.elements }
-    ensures none { IfNone result ((j : ℕ) → j < choose map.now.elements (map.now.rank - 1)
-        → IsOrthogonal vector (get_or (cocircuit_vectors map.now) j [])) }
-    ensures within { IfSome result (λ k. k < choose map.now.elements (map.now.rank - 1)) }
-    ensures here { IfSome result (λ k. IsOrthogonal vector (get_or (cocircuit_vectors map.now) k []) → ⊥) }
-    ensures before { IfSome result
-        (λ k. (j : ℕ) → j < k → IsOrthogonal vector (get_or (cocircuit_vectors map.now) j [])) }
+    ensures none { IfNone result (IsOrthogonalToAll map.now vector) }
+    ensures first { IfSome result (IsFirstApart map.now vector) }
 {
-    let mut a = Subset::first(map.raw.rank - 1, map.raw.elements);
-    for place in 0..Subset::choose(map.raw.elements, map.raw.rank - 1) {
+    for a in Subset::all(map.raw.rank - 1, map.raw.elements) {
         if !vector.orthogonal(map.cocircuit_of(a)) {
-            return Some(place);
+            return Some(a);
         }
-        a = a.following();
     }
     None
 }

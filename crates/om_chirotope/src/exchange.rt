@@ -76,12 +76,10 @@ fn each_vector_is_met(map: &WholeMap, marks: &[u64]) -> bool
     requires marked { AreMarkedAbove map.now marks.now }
     ensures { IsTrue result ↔ HasListExchange map.now }
 {
-    let mut a = Subset::first(map.raw.rank - 1, map.raw.elements);
-    for _k in 0..Subset::choose(map.raw.elements, map.raw.rank - 1) {
+    for a in Subset::all(map.raw.rank - 1, map.raw.elements) {
         if !is_met(map, marks, map.cocircuit_of(a)) {
             return false;
         }
-        a = a.following();
     }
     true
 }

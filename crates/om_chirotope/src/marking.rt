@@ -83,12 +83,10 @@ fn mark_bases(map: &WholeMap, words: &mut [u64])
     requires clear { (i : ℕ) → get_or words.old i 0 ≡ 0 }
     ensures { AreMarked map.now words.new }
 {
-    let mut b = Subset::first(map.raw.rank, map.raw.elements);
-    for k in 0..Subset::choose(map.raw.elements, map.raw.rank) {
-        if is_nonzero(map.sign_of(b, k)) {
+    for (place, b) in Subset::all(map.raw.rank, map.raw.elements).enumerate() {
+        if is_nonzero(map.sign_of(b, place as u32)) {
             mark(words, b.mask());
         }
-        b = b.following();
     }
 }
 

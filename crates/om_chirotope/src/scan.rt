@@ -7,9 +7,10 @@ ghost use Rattle.om_signs.specs.SignVec.{IsOrthogonal};
 ghost use Rattle.om_subsets.specs.Subsets.{choose};
 ghost use Rattle.om_chirotope.specs.Map.{map_of, cocircuit_vectors};
 ghost use Rattle.om_chirotope.specs.Chirotope.{HasOrthogonalPairs, IsFirstViolated};
+ghost use Rattle.om_chirotope.specs.Apart.{IsOrthogonalToAll, IsFirstApart};
 ghost use Rattle.om_chirotope.specs.Settlement.{IsGivenTest, IsSettled, IsUnsettled};
 
-use super::cocircuit_table::{FEW, ROOM, fill_while_orthogonal, first_not_orthogonal_to};
+use super::cocircuit_table::{FEW, ROOM, fill_while_orthogonal, first_apart_from};
 use super::marking::WORDS;
 use super::threaded_scan::scan_on_threads;
 use super::three_terms::meets_test;
@@ -168,8 +169,7 @@ fn settle(map: &WholeMap, cocircuits: &mut [SignVec]) -> Settled
     ensures { IsSettled map.now cocircuits.new result }
 {
     let s = Subset::first(map.raw.rank + 1, map.raw.elements);
-    if let Some(k) = fill_while_orthogonal(map, map.circuit_of(s), cocircuits) {
-        let a = Subset::unrank(k, map.raw.rank - 1, map.raw.elements);
+    if let Some(a) = fill_while_orthogonal(map, map.circuit_of(s), cocircuits) {
         return Settled::Violated { s, a };
     }
     if is_given_test(map) && meets_test(map, cocircuits) {
@@ -204,15 +204,26 @@ fn scan(map: &WholeMap, cocircuits: &[SignVec]) -> Option<(Subset, Subset)>
     ensures none { IsNone result ↔ HasOrthogonalPairs map.now }
     ensures first { IfSome result (λ p. IsFirstViolated map.now p.0 p.1) }
 {
-    let mut s = Subset::first(map.raw.rank + 1, map.raw.elements);
-    for _place in 0..Subset::choose(map.raw.elements, map.raw.rank + 1) {
-        if let Some(k) = first_not_orthogonal(map.circuit_of(s), cocircuits, 0, cocircuits.len()) {
-            let a = Subset::unrank(k as u32, map.raw.rank - 1, map.raw.elements);
+    for s in Subset::all(map.raw.rank + 1, map.raw.elements) {
+        if let Some(a) = first_apart_in(map, map.circuit_of(s), cocircuits) {
             return Some((s, a));
         }
-        s = s.following();
     }
     None
+}
+
+/// The first set of one element less than the rank, in lexicographic order, whose vector U isn't orthogonal to a
+/// given vector. None if all are orthogonal. The table has the vectors U of all these sets.
+fn first_apart_in(map: &WholeMap, vector: SignVec, cocircuits: &[SignVec]) -> Option<Subset>
+    requires rank_low { 1 ≤ map.now.rank }
+    requires few { length cocircuits.now ≤ MOST_SUBSETS }
+    requires filled { cocircuits.now ≡ cocircuit_vectors map.now }
+    requires vector { length vector ≡ map.now.elements }
+    ensures none { IfNone result (IsOrthogonalToAll map.now vector) }
+    ensures first { IfSome result (IsFirstApart map.now vector) }
+{
+    let k = first_not_orthogonal(vector, cocircuits, 0, cocircuits.len())?;
+    Some(Subset::unrank(k as u32, map.raw.rank - 1, map.raw.elements))
 }
 
 /// The first violated pair, found with vectors U that are computed anew for each set S. This is for maps whose
@@ -224,13 +235,10 @@ fn scan_each(map: &WholeMap) -> Option<(Subset, Subset)>
     ensures none { IsNone result ↔ HasOrthogonalPairs map.now }
     ensures first { IfSome result (λ p. IsFirstViolated map.now p.0 p.1) }
 {
-    let mut s = Subset::first(map.raw.rank + 1, map.raw.elements);
-    for _place in 0..Subset::choose(map.raw.elements, map.raw.rank + 1) {
-        if let Some(k) = first_not_orthogonal_to(map, map.circuit_of(s)) {
-            let a = Subset::unrank(k, map.raw.rank - 1, map.raw.elements);
+    for s in Subset::all(map.raw.rank + 1, map.raw.elements) {
+        if let Some(a) = first_apart_from(map, map.circuit_of(s)) {
             return Some((s, a));
         }
-        s = s.following();
     }
     None
 }

@@ -100,15 +100,17 @@ fn has_relations<'a>(map: &'a WholeMap<'a>, cocircuits: &'a [SignVec]) -> bool
     if map.raw.rank < 2 {
         return true;
     }
-    let mut p = Subset::first(map.raw.rank - 2, map.raw.elements);
-    for _k in 0..Subset::choose(map.raw.elements, map.raw.rank - 2) {
-        let picture = Picture { map, cocircuits, p };
-        if !picture.has_relations() {
-            return false;
-        }
-        p = p.following();
-    }
-    true
+    Subset::all(map.raw.rank - 2, map.raw.elements).all(|p| has_relations_at(map, cocircuits, p))
+}
+
+/// Whether the three-term relations of a list P of two elements less than the rank hold.
+fn has_relations_at<'a>(map: &'a WholeMap<'a>, cocircuits: &'a [SignVec], p: Subset) -> bool
+    requires filled { cocircuits.now ≡ take (length cocircuits.now) (cocircuit_vectors map.now) }
+    requires n { p.n ≡ map.now.elements }
+    requires size { length p.elements + 2 ≡ map.now.rank }
+    ensures { IsTrue result ↔ HasRelationsAt map.now p.elements }
+{
+    Picture { map, cocircuits, p }.has_relations()
 }
 
 /// The picture of a list P of two elements less than the rank, with a table of the first vectors U of the map. Its row

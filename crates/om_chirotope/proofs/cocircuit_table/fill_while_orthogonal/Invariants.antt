@@ -1,15 +1,13 @@
-use Rattle.std.proofs.Common.{ℕ, ◌≡◌, ◌-◌, ◌<◌, [], length}
-use Rattle.std.proofs.Math.ListN.{get_or}
-use Rattle.om_signs.specs.SignVec.{IsOrthogonal}
-use Rattle.om_chirotope.specs.Map.{cocircuit_vectors}
-use Rattle.om_subsets.proofs.Walks.{IsAt}
+use Rattle.std.proofs.Common.{◌≡◌, length}
+use Rattle.om_chirotope.proofs.Apart.{IsOrthogonalBelow}
 use Rattle.om_chirotope.proofs.Tables.{IsFilledBelow}
 use Rattle.om_chirotope.proofs.cocircuit_table.fill_while_orthogonal.Given as goal
 
 abbrev pub invariant-loop-place : goal.invariant-loop-place
 invariant-loop-place l = record {
+  can : (goal.iterator-loop-place).can_next l.place-iterator;
+  finite : (goal.iterator-loop-place).is_finite l.place-iterator;
   size : length l.table ≡ length l.fn.table;
-  filled : IsFilledBelow l.map l.table l.place;
-  held : (j : ℕ) → j < l.place → IsOrthogonal l.vector (get_or (cocircuit_vectors l.map) j []);
-  at : IsAt l.map.elements (l.map.rank - 1) l.place l.a;
+  filled : IsFilledBelow l.map l.table (length l.yielded);
+  held : IsOrthogonalBelow l.map l.vector (length l.yielded);
 }

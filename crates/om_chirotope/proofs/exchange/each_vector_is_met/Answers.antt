@@ -1,53 +1,67 @@
-use Rattle.std.proofs.Common.{arith, refl, sym, ap, subst, below_more, ◌∙◌, ◌≡◌, ◌-◌, ◌<◌, ◌≤◌, length}
+use Rattle.std.proofs.Common.{ℕ, arith, refl, sym, ap, subst, below_more, ◌∙◌, ◌-◌, ◌+◌, ◌<◌, ◌≤◌, ◌∷◌, [], get_or, length}
 use Rattle.std.proofs.lemmas.Bool.{false≢true}
-use Rattle.om_subsets.specs.Subsets.{choose, subset_at}
+use Rattle.std.proofs.lemmas.List.{length-append}
 use Rattle.om_laws.specs.Relations.{along}
 use Rattle.om_laws.proofs.BridgeLaws.{length-as_list}
+use Rattle.om_subsets.proofs.SetChains.{at_turn, number_at_end}
 use Rattle.om_chirotope.specs.Map.{cocircuit_vector, cocircuit_vectors, value_of}
 use Rattle.om_chirotope.specs.Pictures.{IsMet}
+use Rattle.om_chirotope.proofs.NumberedSets.{sets_of_map}
 use Rattle.om_chirotope.proofs.SupportMarks.{exchange_of_met, met_of_exchange}
 use Rattle.om_chirotope.proofs.Tables.{length-table, table_at}
-use Rattle.om_subsets.proofs.Walks.{at_next, list_at}
 use Rattle.om_chirotope.proofs.exchange.each_vector_is_met.Goals as goal
+
+pub cocircuit_of-requires : goal.cocircuit_of-requires
+cocircuit_of-requires c =
+    let turn =
+    at_turn c.args.map.now.elements (c.args.map.now.rank - 1) _ _ _
+    (sets_of_map (λ m. m.rank - 1) c.map.view_is c.into_iter-a-iterator.ensures.into_iter_gives
+    c.all-a-items.ensures.sets) c.loop-a.yielded_by c.in-Some.is c.next.ensures.steps in
+    let low = c.requires.rank_low in
+    let size = turn.at.size in
+    record { n = turn.at.n_is; size = omega (arith, low, size) }
 
 pub is_met-requires-clause-length : goal.is_met-requires-clause-length
 is_met-requires-clause-length c = ap length c.cocircuit_of.ensures
-    ∙ length-as_list c.args.map.now.elements (along (value_of c.args.map.now) c.loop-k.a.elements)
+    ∙ length-as_list c.args.map.now.elements (along (value_of c.args.map.now) c.in-Some.a.elements)
 
-pub loop-k-preserved : goal.loop-k-preserved
-loop-k-preserved c =
+pub loop-a-preserved : goal.loop-a-preserved
+loop-a-preserved c =
     let m = c.args.map.now in
-    let end = c.choose-k-end.ensures.value ∙ ap (λ m. choose m.elements (m.rank - 1)) c.map.view_is in
-    let test = c.loop-k-test.true in
-    let l : c.loop-k._k < choose m.elements (m.rank - 1) = omega (arith, end, test) in
-    let e : c.cocircuit_of.result ≡ cocircuit_vector m (subset_at m.elements (m.rank - 1) c.loop-k._k) =
-    c.cocircuit_of.ensures
-    ∙ ap (cocircuit_vector m) (list_at m.elements (m.rank - 1) c.loop-k._k c.loop-k.a l c.loop-k.invariant.at) in
-    record {
-      met = below_more _ _ c.loop-k.invariant.met
-          (subst (IsMet m) (e ∙ sym (table_at m c.loop-k._k l)) (c.if-not-is_met.ensures.0 refl));
-      at = at_next m.elements (m.rank - 1) c.loop-k._k c.loop-k.a c.following-a.result c.following-a.ensures.n
-          c.following-a.ensures.size c.following-a.ensures.lawful c.following-a.ensures.place l c.loop-k.invariant.at;
-    }
+    let k = length c.loop-a.yielded in
+    let turn =
+    at_turn c.args.map.now.elements (c.args.map.now.rank - 1) _ _ _
+    (sets_of_map (λ m. m.rank - 1) c.map.view_is c.into_iter-a-iterator.ensures.into_iter_gives
+    c.all-a-items.ensures.sets) c.loop-a.yielded_by c.in-Some.is c.next.ensures.steps in
+    let e = c.cocircuit_of.ensures ∙ ap (cocircuit_vector m) turn.here ∙ sym (table_at m k turn.inside) in
+    let met : (j : ℕ) → j < k + 1 → IsMet m (get_or (cocircuit_vectors m) j []) =
+    below_more _ _ c.loop-a.invariant.met (subst (IsMet m) e (c.if-not-is_met.ensures.0 refl)) in
+    record { can = tt; finite = tt; met = rw (length-append c.loop-a.yielded (c.in-Some.a ∷ [])) met }
 
 pub returns-then-not-is_met : goal.returns-then-not-is_met
 returns-then-not-is_met c = (
   λ t. absurd (false≢true t),
   λ ex.
       let m = c.args.map.now in
+      let turn =
+      at_turn c.args.map.now.elements (c.args.map.now.rank - 1) _ _ _
+      (sets_of_map (λ m. m.rank - 1) c.map.view_is c.into_iter-a-iterator.ensures.into_iter_gives
+      c.all-a-items.ensures.sets) c.loop-a.yielded_by c.in-Some.is c.next.ensures.steps in
       let low = c.requires.rank_low in
-      let size = c.loop-k.invariant.at.size in
+      let size = turn.at.size in
       absurd (false≢true
       (c.if-not-is_met.ensures.1
       (subst (IsMet m) (sym c.cocircuit_of.ensures)
-      (met_of_exchange m c.loop-k.a.elements c.loop-k.invariant.at.list (omega (arith, low, size)) ex)))),
+      (met_of_exchange m c.in-Some.a.elements turn.at.list (omega (arith, low, size)) ex)))),
 )
 
 pub returns : goal.returns
 returns c =
     let m = c.args.map.now in
-    let end = c.choose-k-end.ensures.value ∙ ap (λ m. choose m.elements (m.rank - 1)) c.map.view_is in
-    let over = c.loop-k-test.false in
+    let end =
+    number_at_end c.args.map.now.elements (c.args.map.now.rank - 1) _ _ _
+    (sets_of_map (λ m. m.rank - 1) c.map.view_is c.into_iter-a-iterator.ensures.into_iter_gives
+    c.all-a-items.ensures.sets) c.loop-a.yielded_by c.in-None.is c.next.ensures.steps in
     let size = length-table m in
-    let done : length (cocircuit_vectors m) ≤ c.loop-k._k = omega (arith, end, over, size) in
-    (λ t. exchange_of_met m (cocircuit_vectors m) c.loop-k._k refl done c.loop-k.invariant.met, λ ex. refl)
+    let done : length (cocircuit_vectors m) ≤ length c.loop-a.yielded = omega (arith, end, size) in
+    (λ t. exchange_of_met m (cocircuit_vectors m) _ refl done c.loop-a.invariant.met, λ ex. refl)

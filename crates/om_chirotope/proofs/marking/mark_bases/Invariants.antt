@@ -1,9 +1,10 @@
-use Rattle.om_subsets.proofs.Walks.{IsAt}
+use Rattle.std.proofs.Common.{length}
 use Rattle.om_chirotope.proofs.Marks.{AreBasesMarkedBelow}
 use Rattle.om_chirotope.proofs.marking.mark_bases.Given as goal
 
-abbrev pub invariant-loop-k : goal.invariant-loop-k
-invariant-loop-k l = record {
-  marked : AreBasesMarkedBelow l.map l.words l.k;
-  at : IsAt l.map.elements l.map.rank l.k l.b;
+abbrev pub invariant-loop-place : goal.invariant-loop-place
+invariant-loop-place l = record {
+  can : (goal.iterator-loop-place).can_next l.place-iterator;
+  finite : (goal.iterator-loop-place).is_finite l.place-iterator;
+  marked : AreBasesMarkedBelow l.map l.words (length l.yielded);
 }

@@ -1,92 +1,60 @@
-use Rattle.std.proofs.Common.{◌-◌, ◌+◌, ◌<◌, refl, arith, ◌∙◌, ap, length}
-use Rattle.om_subsets.specs.Subsets.{choose}
-use Rattle.om_chirotope.specs.Chirotope.{IsPair, IsFirstViolated}
-use Rattle.om_subsets.proofs.Walks.{at_next}
-use Rattle.om_chirotope.proofs.Placed.{placed, at_placed}
-use Rattle.om_chirotope.proofs.Tables.{length-table, table_lengths, found, all_held, all_done}
+use Rattle.std.proofs.Common.{◌∙◌, ◌+◌, ◌∷◌, [], ap, arith, length, refl}
+use Rattle.std.proofs.lemmas.List.{length-append}
+use Rattle.om_laws.specs.Relations.{around}
+use Rattle.om_laws.proofs.BridgeLaws.{length-as_list}
+use Rattle.om_subsets.proofs.SetChains.{at_turn, number_at_end}
+use Rattle.om_chirotope.specs.Map.{value_of}
+use Rattle.om_chirotope.proofs.Apart.{all_below_more, first_violated, pair_found}
+use Rattle.om_chirotope.proofs.NumberedSets.{sets_of_map}
+use Rattle.om_chirotope.proofs.Placed.{IsPlaced, turn_placed}
+use Rattle.om_chirotope.proofs.Tables.{AllBelow, all_done}
 use Rattle.om_chirotope.proofs.scan.scan.Goals as goal
+use Rattle.om_chirotope.proofs.scan.scan.Goals.{After-circuit_of}
 
-pub loop-place-init : goal.loop-place-init
-loop-place-init c = record {
-  all = λ t b p lt. absurd (omega (arith, lt));
-  at = at_placed _ _ _ _ (placed (λ m. m.rank + 1) _ _ _ c.first-s.result c.map.view_is c.first-s.ensures.n
-      c.first-s.ensures.size c.first-s.ensures.lawful c.first-s.ensures.place);
-}
+pub circuit_of-requires : goal.circuit_of-requires
+circuit_of-requires c =
+    let at =
+    (at_turn c.args.map.now.elements (c.args.map.now.rank + 1) _ _ _
+    (sets_of_map (λ m. m.rank + 1) c.map.view_is c.into_iter-s-iterator.ensures.into_iter_gives
+    c.all-s-items.ensures.sets) c.loop-s.yielded_by c.in-Some.is c.next.ensures.steps).at in
+    record { n = at.n_is; size = at.size }
 
-pub first_not_orthogonal-requires-clause-lengths : goal.first_not_orthogonal-requires-clause-lengths
-first_not_orthogonal-requires-clause-lengths c =
-    table_lengths c.args.map.now c.loop-place.s.elements c.circuit_of.result c.args.cocircuits.now
-    c.circuit_of.ensures c.requires.filled
+-- the set S of a turn
+here : (c : After-circuit_of) → IsPlaced c.args.map.now.elements (c.args.map.now.rank + 1) (length c.loop-s.yielded)
+    c.in-Some.s
+here c =
+    turn_placed _ _ _ _
+    (at_turn c.args.map.now.elements (c.args.map.now.rank + 1) _ _ _
+    (sets_of_map (λ m. m.rank + 1) c.map.view_is c.into_iter-s-iterator.ensures.into_iter_gives
+    c.all-s-items.ensures.sets) c.loop-s.yielded_by c.in-Some.is c.next.ensures.steps)
 
-pub unrank-a-requires-clause-place : goal.unrank-a-requires-clause-place
-unrank-a-requires-clause-place c =
-    let size = ap length c.requires.filled ∙ length-table c.args.map.now in
-    let within = c.in-Some.ensures.within in
-    let same = ap (λ m. choose m.elements (m.rank - 1)) c.map.view_is in
-    omega arith
+pub first_apart_in-requires-clause-vector : goal.first_apart_in-requires-clause-vector
+first_apart_in-requires-clause-vector c = ap length c.circuit_of.ensures
+    ∙ length-as_list c.args.map.now.elements (around (value_of c.args.map.now) c.in-Some.s.elements)
 
-pub returns-in-Some-clause-none : goal.returns-in-Some-clause-none
-returns-in-Some-clause-none c =
-    let end = c.choose-place-end.ensures.value ∙ ap (λ m. choose m.elements (m.rank + 1)) c.map.view_is in
-    let test = c.loop-place-test.true in
-    let l : c.loop-place._place < choose c.args.map.now.elements (c.args.map.now.rank + 1) = omega (arith, end, test) in
-    let low = c.requires.rank_low in
-    let a = placed (λ m. m.rank - 1) _ _ _ c.unrank-a.result c.map.view_is c.unrank-a.ensures.n c.unrank-a.ensures.size
-    c.unrank-a.ensures.lawful c.unrank-a.ensures.place in
-    let size = a.size in
-    let pair : IsPair c.args.map.now c.loop-place.s.elements c.unrank-a.result.elements =
-    record {
-      s_list = c.loop-place.invariant.at.list;
-      s_size = c.loop-place.invariant.at.size;
-      a_list = a.list;
-      a_size = omega arith;
-    } in
-    let first : IsFirstViolated c.args.map.now c.loop-place.s c.unrank-a.result =
-    found c.args.map.now c.loop-place.s c.unrank-a.result c.loop-place._place c.in-Some.k
-    c.circuit_of.result c.args.cocircuits.now c.loop-place.invariant.at.n_is a.n_is pair
-    (c.loop-place.invariant.at.place l) a.place c.circuit_of.ensures c.requires.filled
-    c.in-Some.ensures.here (λ j l. c.in-Some.ensures.before j (omega arith) l) c.loop-place.invariant.all in
-    (λ e. cc, λ h. absurd (first.violated (h c.loop-place.s.elements c.unrank-a.result.elements pair)))
+pub returns-in-Some-first_apart_in-clause-first : goal.returns-in-Some-first_apart_in-clause-first
+returns-in-Some-first_apart_in-clause-first c =
+    first_violated c.args.map.now c.in-Some.s c.in-Some-first_apart_in.a _ c.circuit_of.result (here c.before.before)
+    c.circuit_of.ensures c.in-Some-first_apart_in.ensures.first c.loop-s.invariant.all
 
-pub returns-in-Some-clause-first : goal.returns-in-Some-clause-first
-returns-in-Some-clause-first c =
-    let end = c.choose-place-end.ensures.value ∙ ap (λ m. choose m.elements (m.rank + 1)) c.map.view_is in
-    let test = c.loop-place-test.true in
-    let l : c.loop-place._place < choose c.args.map.now.elements (c.args.map.now.rank + 1) = omega (arith, end, test) in
-    let low = c.requires.rank_low in
-    let a = placed (λ m. m.rank - 1) _ _ _ c.unrank-a.result c.map.view_is c.unrank-a.ensures.n c.unrank-a.ensures.size
-    c.unrank-a.ensures.lawful c.unrank-a.ensures.place in
-    let size = a.size in
-    let pair : IsPair c.args.map.now c.loop-place.s.elements c.unrank-a.result.elements =
-    record {
-      s_list = c.loop-place.invariant.at.list;
-      s_size = c.loop-place.invariant.at.size;
-      a_list = a.list;
-      a_size = omega arith;
-    } in
-    found c.args.map.now c.loop-place.s c.unrank-a.result c.loop-place._place c.in-Some.k c.circuit_of.result
-    c.args.cocircuits.now c.loop-place.invariant.at.n_is a.n_is
-    pair
-    (c.loop-place.invariant.at.place l) a.place c.circuit_of.ensures c.requires.filled
-    c.in-Some.ensures.here (λ j l. c.in-Some.ensures.before j (omega arith) l) c.loop-place.invariant.all
+pub returns-in-Some-first_apart_in-clause-none : goal.returns-in-Some-first_apart_in-clause-none
+returns-in-Some-first_apart_in-clause-none c =
+    pair_found c.args.map.now c.in-Some.s c.in-Some-first_apart_in.a
+    (first_violated c.args.map.now c.in-Some.s c.in-Some-first_apart_in.a _ c.circuit_of.result (here c.before.before)
+    c.circuit_of.ensures c.in-Some-first_apart_in.ensures.first c.loop-s.invariant.all)
 
-pub loop-place-preserved : goal.loop-place-preserved
-loop-place-preserved c =
-    let end = c.choose-place-end.ensures.value ∙ ap (λ m. choose m.elements (m.rank + 1)) c.map.view_is in
-    let test = c.loop-place-test.true in
-    let l : c.loop-place._place < choose c.args.map.now.elements (c.args.map.now.rank + 1) = omega (arith, end, test) in
-    record {
-      all = all_held c.args.map.now c.loop-place.s.elements c.loop-place._place c.circuit_of.result
-          c.args.cocircuits.now c.loop-place.invariant.at.list c.loop-place.invariant.at.size
-          (c.loop-place.invariant.at.place l) c.circuit_of.ensures c.requires.filled
-          (λ j l. c.in_default.ensures.none j (omega arith) l) c.loop-place.invariant.all;
-      at = at_next c.args.map.now.elements (c.args.map.now.rank + 1) c.loop-place._place c.loop-place.s
-          c.following-s.result c.following-s.ensures.n c.following-s.ensures.size c.following-s.ensures.lawful
-          c.following-s.ensures.place l c.loop-place.invariant.at;
-    }
+pub loop-s-preserved : goal.loop-s-preserved
+loop-s-preserved c =
+    let m = c.args.map.now in
+    let all : AllBelow m (length c.loop-s.yielded + 1) =
+    all_below_more m c.in-Some.s _ c.circuit_of.result (here c.before.before) c.circuit_of.ensures
+    c.in_default.ensures.none c.loop-s.invariant.all in
+    record { can = tt; finite = tt; all = rw (length-append c.loop-s.yielded (c.in-Some.s ∷ [])) all }
 
 pub returns-clause-none : goal.returns-clause-none
 returns-clause-none c =
-    let end = c.choose-place-end.ensures.value ∙ ap (λ m. choose m.elements (m.rank + 1)) c.map.view_is in
-    let over = c.loop-place-test.false in
-    (λ e. all_done c.args.map.now c.loop-place._place (omega arith) c.loop-place.invariant.all, λ h. refl)
+    let end =
+    number_at_end c.args.map.now.elements (c.args.map.now.rank + 1) _ _ _
+    (sets_of_map (λ m. m.rank + 1) c.map.view_is c.into_iter-s-iterator.ensures.into_iter_gives
+    c.all-s-items.ensures.sets) c.loop-s.yielded_by c.in-None.is c.next.ensures.steps in
+    (λ e. all_done c.args.map.now (length c.loop-s.yielded) (omega (arith, end)) c.loop-s.invariant.all, λ h. refl)

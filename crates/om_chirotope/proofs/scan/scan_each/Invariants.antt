@@ -1,10 +1,10 @@
-use Rattle.std.proofs.Common.{◌+◌}
-use Rattle.om_subsets.proofs.Walks.{IsAt}
+use Rattle.std.proofs.Common.{length}
 use Rattle.om_chirotope.proofs.Tables.{AllBelow}
 use Rattle.om_chirotope.proofs.scan.scan_each.Given as goal
 
-abbrev pub invariant-loop-place : goal.invariant-loop-place
-invariant-loop-place l = record {
-  all : AllBelow l.map l._place;
-  at : IsAt l.map.elements (l.map.rank + 1) l._place l.s;
+abbrev pub invariant-loop-s : goal.invariant-loop-s
+invariant-loop-s l = record {
+  can : (goal.iterator-loop-s).can_next l.s-iterator;
+  finite : (goal.iterator-loop-s).is_finite l.s-iterator;
+  all : AllBelow l.map (length l.yielded);
 }

@@ -1,0 +1,60 @@
+use Rattle.std.proofs.Common.{◌∙◌, ◌-◌, ◌+◌, ◌∷◌, [], ap, arith, length, refl, subst, sym}
+use Rattle.std.proofs.lemmas.Bool.{false≢true}
+use Rattle.std.proofs.lemmas.List.{length-append}
+use Rattle.om_signs.specs.SignVec.{IsOrthogonal}
+use Rattle.om_laws.specs.Relations.{along}
+use Rattle.om_laws.proofs.BridgeLaws.{length-as_list}
+use Rattle.om_subsets.proofs.SetChains.{at_turn, number_at_end}
+use Rattle.om_chirotope.specs.Map.{value_of}
+use Rattle.om_chirotope.proofs.Apart.{IsOrthogonalBelow, first_at, orthogonal_more, orthogonal_to_all}
+use Rattle.om_chirotope.proofs.NumberedSets.{sets_of_map}
+use Rattle.om_chirotope.proofs.Placed.{IsPlaced, turn_placed}
+use Rattle.om_chirotope.proofs.cocircuit_table.first_apart_from.Goals as goal
+use Rattle.om_chirotope.proofs.cocircuit_table.first_apart_from.Goals.{After-cocircuit_of}
+
+pub cocircuit_of-requires : goal.cocircuit_of-requires
+cocircuit_of-requires c =
+    let turn =
+    at_turn c.args.map.now.elements (c.args.map.now.rank - 1) _ _ _
+    (sets_of_map (λ m. m.rank - 1) c.map.view_is c.into_iter-a-iterator.ensures.into_iter_gives
+    c.all-a-items.ensures.sets) c.loop-a.yielded_by c.in-Some.is c.next.ensures.steps in
+    let low = c.requires.rank_low in
+    let size = turn.at.size in
+    record { n = turn.at.n_is; size = omega (arith, low, size) }
+
+-- the set of a turn
+here : (c : After-cocircuit_of) → IsPlaced c.args.map.now.elements (c.args.map.now.rank - 1) (length c.loop-a.yielded)
+    c.in-Some.a
+here c =
+    turn_placed _ _ _ _
+    (at_turn c.args.map.now.elements (c.args.map.now.rank - 1) _ _ _
+    (sets_of_map (λ m. m.rank - 1) c.map.view_is c.into_iter-a-iterator.ensures.into_iter_gives
+    c.all-a-items.ensures.sets) c.loop-a.yielded_by c.in-Some.is c.next.ensures.steps)
+
+pub orthogonal-requires : goal.orthogonal-requires
+orthogonal-requires c = c.requires.vector
+    ∙ sym (ap length c.cocircuit_of.ensures
+    ∙ length-as_list c.args.map.now.elements (along (value_of c.args.map.now) c.in-Some.a.elements))
+
+pub returns-then-not-orthogonal-clause-first : goal.returns-then-not-orthogonal-clause-first
+returns-then-not-orthogonal-clause-first c =
+    first_at c.args.map.now c.args.vector _ c.in-Some.a c.requires.rank_low (here c.before.before)
+    (λ o. false≢true
+    (c.if-not-orthogonal.ensures.1 (subst (IsOrthogonal c.args.vector) (sym c.cocircuit_of.ensures) o)))
+    c.loop-a.invariant.held
+
+pub loop-a-preserved : goal.loop-a-preserved
+loop-a-preserved c =
+    let k = length c.loop-a.yielded in
+    let held : IsOrthogonalBelow c.args.map.now c.args.vector (k + 1) =
+    orthogonal_more c.args.map.now c.args.vector k c.in-Some.a c.requires.rank_low (here c.before.before)
+    (subst (IsOrthogonal c.args.vector) c.cocircuit_of.ensures (c.if-not-orthogonal.ensures.0 refl))
+    c.loop-a.invariant.held in
+    record { can = tt; finite = tt; held = rw (length-append c.loop-a.yielded (c.in-Some.a ∷ [])) held }
+
+pub returns-clause-none : goal.returns-clause-none
+returns-clause-none c =
+    orthogonal_to_all c.args.map.now c.args.vector (length c.loop-a.yielded)
+    (number_at_end c.args.map.now.elements (c.args.map.now.rank - 1) _ _ _
+    (sets_of_map (λ m. m.rank - 1) c.map.view_is c.into_iter-a-iterator.ensures.into_iter_gives
+    c.all-a-items.ensures.sets) c.loop-a.yielded_by c.in-None.is c.next.ensures.steps) c.loop-a.invariant.held
