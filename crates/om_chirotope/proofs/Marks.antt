@@ -2,20 +2,22 @@
 --
 -- Main definitions: AreBasesMarkedBelow, AreMarkedUpTo
 -- Main results: mark_kept, basis_marked, all_marked, none_marked, mark_only, basis_in_itself, nothing_above,
--- above_more, all_above
+-- above_more, all_above; turn_marked and turn_left_out, for a walk over the sets
 use Rattle.std.specs.Prelude.{ℕ, ◌≡◌, ◌≢◌, ◌+◌, ◌-◌, ◌*◌, ◌/◌, ◌%◌, ◌<◌, ◌≤◌, ◌^◌, ◌⊎◌, ◌↔◌, List, length}
 use Rattle.std.specs.Int.{bit_at}
-use Rattle.std.proofs.Common.{sym, ◌∙◌, ap, arith, inl, inr, subst, get_or}
+use Rattle.std.proofs.Common.{refl, sym, ◌∙◌, ap, arith, inl, inr, subst, get_or}
 use Rattle.std.proofs.lemmas.Bool.{cases_eq}
 use Rattle.std.proofs.lemmas.Nat.Bits.{bit_at_above, bit_at-zero, same_from_bits_below}
+use Rattle.om_signs.specs.declared.sign.Sign.TheVariants.{Zero}
 use Rattle.om_signs.specs.SignVec.{IsMaskOf}
 use Rattle.om_signs.proofs.Bits.{not_zero_and_one, bit_one_or_zero}
 use Rattle.om_subsets.specs.Subsets.{choose, rank_of, IsSubsetFrom, IsMember}
-use Rattle.om_subsets.specs.Members.{mask_of}
+use Rattle.om_subsets.specs.Members.{Chosen, mask_of}
 use Rattle.om_subsets.proofs.Masks.{mask_of-lt, members-mask_of, bits_are_members}
 use Rattle.om_subsets.proofs.Order.{members_from, rank_from-lt, same_place}
+use Rattle.om_subsets.proofs.SetChains.{IsTurn}
 use Rattle.om_laws.proofs.MemberLaws.{member_or_not}
-use Rattle.om_chirotope.specs.Map.{SignMap}
+use Rattle.om_chirotope.specs.Map.{SignMap, value_of}
 use Rattle.om_chirotope.specs.ThreeTerm.{IsBasis}
 use Rattle.om_chirotope.specs.Marks.{mark_at, IsMarked, IsSpread, IsSpreadFrom}
 use Rattle.om_chirotope.specs.Pictures.{AreMarked, AreMarkedAbove, HasBasisIn, IsInMask}
@@ -202,3 +204,27 @@ all_above m words e le all = record {
       (λ i l one. absurd (not_zero_and_one (bit_at mask i) (bit_at_above mask m.elements i within (omega arith)) one));
   only = all.only;
 }
+
+-- ---- the turns of a walk over the sets
+
+-- a turn marks its set, which is a basis
+pub turn_marked : (m : SignMap) (words marked : List ℕ) (k mask : ℕ) (b : Chosen) → IsTurn m.elements m.rank k b
+    → mask ≡ mask_of 1 b.elements b.n → (value_of m b.elements ≢ Zero) → length marked ≡ length words
+    → IsMarked marked mask → ((j : ℕ) → j ≢ mask → mark_at marked j ≡ mark_at words j)
+    → AreBasesMarkedBelow m words k → AreBasesMarkedBelow m marked (k + 1)
+turn_marked m words marked k mask b turn e nonzero size here others all =
+    let at = turn.at in
+    let same : mask ≡ mask_of 1 b.elements m.elements = e ∙ ap (λ n. mask_of 1 b.elements n) at.n_is in
+    basis_marked m words marked b.elements k at.list at.size (at.place turn.inside) size
+    (λ j h. mark_kept words marked mask j here (others j) h) (λ basis. subst (IsMarked marked) same here)
+    (mark_only m words marked mask
+    (basis_in_itself m b.elements mask same (record { list = at.list; size = at.size; nonzero = nonzero }))
+    others all.only) all
+
+-- a turn leaves out its set, which is no basis
+pub turn_left_out : (m : SignMap) (words : List ℕ) (k : ℕ) (b : Chosen) → IsTurn m.elements m.rank k b
+    → (value_of m b.elements ≢ Zero → ⊥) → AreBasesMarkedBelow m words k → AreBasesMarkedBelow m words (k + 1)
+turn_left_out m words k b turn zero all =
+    let at = turn.at in
+    basis_marked m words words b.elements k at.list at.size (at.place turn.inside) refl (λ j h. h)
+    (λ basis. absurd (zero basis.nonzero)) all.only all

@@ -2,7 +2,7 @@
 --
 -- Main definitions: IsNumberedTurn, AreNumbered
 -- Main results: sets_of_map and are_numbered, what the calls give for a lent map; numbered_turn, the number and the set
--- of a turn; number_fits, that the next number fits; numbered_end, how many came
+-- of a turn; first_fits and number_fits, that the next number fits; numbered_end, how many came
 use Rattle.std.specs.Prelude.{ℕ, ◌≡◌, ◌<◌, ◌≤◌, ◌+◌, ◌^◌, List, [], ◌∷◌, length, Option, Some, None}
 use Rattle.std.proofs.Common.{refl, sym, ◌∙◌, ap, arith, subst}
 use Rattle.std.specs.Iterator.{Yields}
@@ -56,6 +56,11 @@ are_numbered r view into source none sets few =
       none = ap (λ z. enumerate_count z) into ∙ none;
       few = subst (λ l. length l ≤ MOST_SUBSETS) (sym from) few;
     }
+
+-- the number of the first set fits
+pub first_fits : {r : SignMap → ℕ} {w : SignMap} {s : Enumerate (List Chosen)} → AreNumbered r w s
+    → enumerate_count s + length (enumerate_source s) < 2 ^ 64
+first_fits all = let none = all.none in let few = all.few in omega (arith, none, few)
 
 -- how many came and how many are to come stay as many as there are
 number_kept : (xs : List (ℕ × Chosen)) (s t : Enumerate (List Chosen)) → Yields (enumerate_steps set_steps) s xs t

@@ -3,11 +3,11 @@
 -- Main results: table_done, table_held, all_done and found, for the scan over the sets S; no_pairs_above,
 -- no_pairs_of_rank_zero and part_before; some_rank and rank_below; taken_size,
 -- taken_within and taken_room.
-use Rattle.std.specs.Prelude.{ℕ, ◌≡◌, ◌+◌, ◌-◌, ◌*◌, ◌<◌, ◌≤◌, List, [], length, take}
+use Rattle.std.specs.Prelude.{ℕ, ◌≡◌, ◌+◌, ◌-◌, ◌*◌, ◌<◌, ◌≤◌, List, [], ◌∷◌, ◌++◌, length, take}
 use Rattle.std.proofs.Common.{sym, ◌∙◌, ap, arith, inl, inr, subst, get_or, set}
 use Rattle.std.proofs.lemmas.Bool.{cases_eq}
 use Rattle.std.proofs.lemmas.List.{ext_get_or, length-map, get_or-map, get_or-set_same, get_or-set_other, get_or-take}
-use Rattle.std.proofs.lemmas.List.{take_all, length-take-le}
+use Rattle.std.proofs.lemmas.List.{length-append, take_all, length-take-le}
 use Rattle.om_signs.specs.declared.sign.Sign.{Sign}
 use Rattle.om_signs.specs.SignVec.{IsOrthogonal}
 use Rattle.om_subsets.specs.Subsets.{choose, all_subsets, subset_at, rank_of, IsSubsetFrom}
@@ -17,6 +17,7 @@ use Rattle.om_subsets.proofs.Table.{choose_above}
 use Rattle.om_laws.specs.Relations.{around, along}
 use Rattle.om_laws.proofs.BridgeLaws.{length-as_list}
 use Rattle.om_chirotope.specs.Map.{SignMap, value_of, circuit_vector, cocircuit_vector, cocircuit_vectors}
+use Rattle.om_chirotope.proofs.NumberedSets.{IsNumberedTurn}
 use Rattle.om_chirotope.specs.Chirotope.{IsPair, IsOrthogonalPair, HasOrthogonalPairs, IsFirstViolated}
 
 pub length-table : (m : SignMap) → length (cocircuit_vectors m) ≡ choose m.elements (m.rank - 1)
@@ -41,6 +42,26 @@ table_more m table k u lt e h j l = elim (cases_eq j k) [
       ∙ ap (λ i. cocircuit_vector m (subset_at m.elements (m.rank - 1) i)) (sym q)
   | inr n ↦ get_or-set_other table k j u [] n ∙ h j (omega arith)
 ]
+
+-- the place of a turn is within the table
+pub place_fits : (m : SignMap) (table : List (List Sign)) (k size : ℕ) (x : ℕ × Chosen)
+    → IsNumberedTurn m.elements (m.rank - 1) k x → length table ≡ size → size ≡ choose m.elements (m.rank - 1)
+    → x.0 < length table
+place_fits m table k size x turn l room =
+    let number = turn.number in
+    let inside = turn.turn.inside in
+    omega (arith, number, inside, l, room)
+
+-- a turn fills one more place
+pub filled_more : (m : SignMap) (table : List (List Sign)) (size : ℕ) (xs : List (ℕ × Chosen)) (x : ℕ × Chosen)
+    (u : List Sign) → IsNumberedTurn m.elements (m.rank - 1) (length xs) x → length table ≡ size
+    → size ≡ choose m.elements (m.rank - 1) → u ≡ cocircuit_vector m x.1.elements
+    → IsFilledBelow m table (length xs) → IsFilledBelow m (set table x.0 u) (length (xs ++ x ∷ []))
+filled_more m table size xs x u turn l room e h =
+    let inside = turn.turn.inside in
+    rw (length-append xs (x ∷ []), turn.number)
+    (table_more m table (length xs) u (omega (arith, inside, l, room))
+    (e ∙ ap (cocircuit_vector m) turn.turn.here) h)
 
 pub table_done : (m : SignMap) (table : List (List Sign)) → length table ≡ choose m.elements (m.rank - 1)
     → IsFilledBelow m table (choose m.elements (m.rank - 1)) → table ≡ cocircuit_vectors m

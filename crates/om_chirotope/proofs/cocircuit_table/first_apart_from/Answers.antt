@@ -12,12 +12,19 @@ use Rattle.om_chirotope.proofs.Placed.{IsPlaced, turn_placed}
 use Rattle.om_chirotope.proofs.cocircuit_table.first_apart_from.Goals as goal
 use Rattle.om_chirotope.proofs.cocircuit_table.first_apart_from.Goals.{After-cocircuit_of}
 
+pub loop-a-init : goal.loop-a-init
+loop-a-init c = record {
+  can = tt;
+  finite = tt;
+  sets = sets_of_map (λ m. m.rank - 1) c.map.view_is c.into_iter-a-iterator.ensures.into_iter_gives
+      c.all-a-items.ensures.sets;
+  held = λ b list size l. absurd (omega (arith, l));
+}
+
 pub cocircuit_of-requires : goal.cocircuit_of-requires
 cocircuit_of-requires c =
-    let turn =
-    at_turn c.args.map.now.elements (c.args.map.now.rank - 1) _ _ _
-    (sets_of_map (λ m. m.rank - 1) c.map.view_is c.into_iter-a-iterator.ensures.into_iter_gives
-    c.all-a-items.ensures.sets) c.loop-a.yielded_by c.in-Some.is c.next.ensures.steps in
+    let turn = at_turn c.args.map.now.elements (c.args.map.now.rank - 1) _ _ _
+    c.loop-a.invariant.sets c.loop-a.yielded_by c.in-Some.is c.next.ensures.steps in
     let low = c.requires.rank_low in
     let size = turn.at.size in
     record { n = turn.at.n_is; size = omega (arith, low, size) }
@@ -26,10 +33,8 @@ cocircuit_of-requires c =
 here : (c : After-cocircuit_of) → IsPlaced c.args.map.now.elements (c.args.map.now.rank - 1) (length c.loop-a.yielded)
     c.in-Some.a
 here c =
-    turn_placed _ _ _ _
-    (at_turn c.args.map.now.elements (c.args.map.now.rank - 1) _ _ _
-    (sets_of_map (λ m. m.rank - 1) c.map.view_is c.into_iter-a-iterator.ensures.into_iter_gives
-    c.all-a-items.ensures.sets) c.loop-a.yielded_by c.in-Some.is c.next.ensures.steps)
+    turn_placed _ _ _ _ (at_turn c.args.map.now.elements (c.args.map.now.rank - 1) _ _ _
+    c.loop-a.invariant.sets c.loop-a.yielded_by c.in-Some.is c.next.ensures.steps)
 
 pub orthogonal-requires : goal.orthogonal-requires
 orthogonal-requires c = c.requires.vector
@@ -50,11 +55,10 @@ loop-a-preserved c =
     orthogonal_more c.args.map.now c.args.vector k c.in-Some.a c.requires.rank_low (here c.before.before)
     (subst (IsOrthogonal c.args.vector) c.cocircuit_of.ensures (c.if-not-orthogonal.ensures.0 refl))
     c.loop-a.invariant.held in
-    record { can = tt; finite = tt; held = rw (length-append c.loop-a.yielded (c.in-Some.a ∷ [])) held }
+    record { can = tt; finite = tt; sets = c.loop-a.invariant.sets; held = rw (length-append c.loop-a.yielded (c.in-Some.a ∷ [])) held }
 
 pub returns-clause-none : goal.returns-clause-none
 returns-clause-none c =
     orthogonal_to_all c.args.map.now c.args.vector (length c.loop-a.yielded)
     (number_at_end c.args.map.now.elements (c.args.map.now.rank - 1) _ _ _
-    (sets_of_map (λ m. m.rank - 1) c.map.view_is c.into_iter-a-iterator.ensures.into_iter_gives
-    c.all-a-items.ensures.sets) c.loop-a.yielded_by c.in-None.is c.next.ensures.steps) c.loop-a.invariant.held
+    c.loop-a.invariant.sets c.loop-a.yielded_by c.in-None.is c.next.ensures.steps) c.loop-a.invariant.held

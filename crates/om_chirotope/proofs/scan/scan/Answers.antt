@@ -11,22 +11,27 @@ use Rattle.om_chirotope.proofs.Tables.{AllBelow, all_done}
 use Rattle.om_chirotope.proofs.scan.scan.Goals as goal
 use Rattle.om_chirotope.proofs.scan.scan.Goals.{After-circuit_of}
 
+pub loop-s-init : goal.loop-s-init
+loop-s-init c = record {
+  can = tt;
+  finite = tt;
+  sets = sets_of_map (λ m. m.rank + 1) c.map.view_is c.into_iter-s-iterator.ensures.into_iter_gives
+      c.all-s-items.ensures.sets;
+  all = λ t b p l. absurd (omega (arith, l));
+}
+
 pub circuit_of-requires : goal.circuit_of-requires
 circuit_of-requires c =
-    let at =
-    (at_turn c.args.map.now.elements (c.args.map.now.rank + 1) _ _ _
-    (sets_of_map (λ m. m.rank + 1) c.map.view_is c.into_iter-s-iterator.ensures.into_iter_gives
-    c.all-s-items.ensures.sets) c.loop-s.yielded_by c.in-Some.is c.next.ensures.steps).at in
+    let at = (at_turn c.args.map.now.elements (c.args.map.now.rank + 1) _ _ _
+    c.loop-s.invariant.sets c.loop-s.yielded_by c.in-Some.is c.next.ensures.steps).at in
     record { n = at.n_is; size = at.size }
 
 -- the set S of a turn
 here : (c : After-circuit_of) → IsPlaced c.args.map.now.elements (c.args.map.now.rank + 1) (length c.loop-s.yielded)
     c.in-Some.s
 here c =
-    turn_placed _ _ _ _
-    (at_turn c.args.map.now.elements (c.args.map.now.rank + 1) _ _ _
-    (sets_of_map (λ m. m.rank + 1) c.map.view_is c.into_iter-s-iterator.ensures.into_iter_gives
-    c.all-s-items.ensures.sets) c.loop-s.yielded_by c.in-Some.is c.next.ensures.steps)
+    turn_placed _ _ _ _ (at_turn c.args.map.now.elements (c.args.map.now.rank + 1) _ _ _
+    c.loop-s.invariant.sets c.loop-s.yielded_by c.in-Some.is c.next.ensures.steps)
 
 pub first_apart_in-requires-clause-vector : goal.first_apart_in-requires-clause-vector
 first_apart_in-requires-clause-vector c = ap length c.circuit_of.ensures
@@ -49,12 +54,10 @@ loop-s-preserved c =
     let all : AllBelow m (length c.loop-s.yielded + 1) =
     all_below_more m c.in-Some.s _ c.circuit_of.result (here c.before.before) c.circuit_of.ensures
     c.in_default.ensures.none c.loop-s.invariant.all in
-    record { can = tt; finite = tt; all = rw (length-append c.loop-s.yielded (c.in-Some.s ∷ [])) all }
+    record { can = tt; finite = tt; sets = c.loop-s.invariant.sets; all = rw (length-append c.loop-s.yielded (c.in-Some.s ∷ [])) all }
 
 pub returns-clause-none : goal.returns-clause-none
 returns-clause-none c =
-    let end =
-    number_at_end c.args.map.now.elements (c.args.map.now.rank + 1) _ _ _
-    (sets_of_map (λ m. m.rank + 1) c.map.view_is c.into_iter-s-iterator.ensures.into_iter_gives
-    c.all-s-items.ensures.sets) c.loop-s.yielded_by c.in-None.is c.next.ensures.steps in
+    let end = number_at_end c.args.map.now.elements (c.args.map.now.rank + 1) _ _ _
+    c.loop-s.invariant.sets c.loop-s.yielded_by c.in-None.is c.next.ensures.steps in
     (λ e. all_done c.args.map.now (length c.loop-s.yielded) (omega (arith, end)) c.loop-s.invariant.all, λ h. refl)

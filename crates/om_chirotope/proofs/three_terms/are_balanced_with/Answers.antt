@@ -1,117 +1,72 @@
-use Rattle.std.proofs.Common.{arith, refl, sym, ap, ◌∙◌, get_or, length, [], ◌≡◌, ◌<◌, w32}
+use Rattle.std.proofs.Common.{ℕ, arith, refl, get_or, length, List, [], ◌≡◌, ◌<◌, ◌≤◌, w32, rules}
 use Rattle.std.proofs.lemmas.Bool.{false≢true}
 use Rattle.std.proofs.lemmas.List.{get_or_default}
 use Rattle.std.specs.Int.{trailing_zeros}
 use Rattle.om_chirotope.specs.Pictures.{IsTriple}
 use Rattle.om_chirotope.proofs.ThreeRows.{triple_of_rows, triple_to_rows, same_lengths, place_in_row}
-use Rattle.om_chirotope.proofs.RowMasks.{IsLowest, all_cleared, cleared_more, lowest_bit, uncleared}
+use Rattle.om_chirotope.proofs.RowMasks.{all_cleared, cleared_more, lowest_bit, uncleared}
+use Rattle.om_signs.specs.declared.sign.Sign.{Sign}
+use Rattle.om_signs.specs.declared.limits.TheConstants.{MAX_PLACES}
 use Rattle.om_chirotope.proofs.three_terms.are_balanced_with.Goals as goal
+
+-- an element has a row, so that the read of its row doesn't give the default
+inside : {k n l : ℕ} → k < n → n ≤ MAX_PLACES → l ≡ MAX_PLACES → k < l
+inside p q r = omega (arith, p, q, r)
+
+read : (rows : List (List Sign)) (d : List Sign) {k n : ℕ} → k < n → n ≤ MAX_PLACES → length rows ≡ MAX_PLACES
+    → get_or rows k d ≡ get_or rows k []
+read rows d {k} p q r = get_or_default rows k d [] (inside p q r)
 
 pub loop-rest-init : goal.loop-rest-init
 loop-rest-init c = uncleared c.args.later c.args.elements _ c.requires.later
 
 pub listed-in-loop-rest : goal.listed-in-loop-rest
 listed-in-loop-rest c =
-    let low : IsLowest c.loop-rest.rest c.args.elements (trailing_zeros w32 c.loop-rest.rest) =
-    lowest_bit c.loop-rest.rest c.args.elements c.requires.high c.loop-rest.invariant.within c.loop-rest-test.true
-    in
-    let here = low.here in
-    let few = c.requires.high in
-    let size = c.type_inv.rows in
-    omega (arith, here, few, size)
+    inside (lowest_bit _ _ c.requires.high c.loop-rest.invariant.within c.loop-rest-test.true).here
+    c.requires.high c.type_inv.rows
 
 pub bounds-rows-z : goal.bounds-rows-z
 bounds-rows-z c =
-    let low : IsLowest c.loop-rest.rest c.args.elements (trailing_zeros w32 c.loop-rest.rest) =
-    lowest_bit c.loop-rest.rest c.args.elements c.requires.high c.loop-rest.invariant.within c.loop-rest-test.true
-    in
-    let here = low.here in
-    let few = c.requires.high in
-    omega (arith, here, few)
+    let here = (lowest_bit _ _ c.requires.high c.loop-rest.invariant.within c.loop-rest-test.true).here in
+    let few = c.requires.high in omega (arith, here, few)
 
-pub are_balanced-requires-clause-third : goal.are_balanced-requires-clause-third
-are_balanced-requires-clause-third c =
-    let tz = trailing_zeros w32 c.loop-rest.rest in
-    let low : IsLowest c.loop-rest.rest c.args.elements tz =
-    lowest_bit c.loop-rest.rest c.args.elements c.requires.high c.loop-rest.invariant.within c.loop-rest-test.true
-    in
-    let here = low.here in
-    let few = c.requires.high in
-    let size = c.type_inv.rows in
-    let xl = c.requires.x in
-    let a : tz < length c.args.rows.now = omega (arith, here, few, size) in
-    let b : c.args.x < length c.args.rows.now = omega (arith, xl, few, size) in
-    ap length (get_or_default c.args.rows.now tz _ [] a) ∙ c.requires.rows tz a
-    ∙ sym (ap length (get_or_default c.args.rows.now c.args.x _ [] b) ∙ c.requires.rows c.args.x b)
-
-pub are_balanced-requires-clause-z_high : goal.are_balanced-requires-clause-z_high
-are_balanced-requires-clause-z_high c =
-    let tz = trailing_zeros w32 c.loop-rest.rest in
-    let low : IsLowest c.loop-rest.rest c.args.elements tz =
-    lowest_bit c.loop-rest.rest c.args.elements c.requires.high c.loop-rest.invariant.within c.loop-rest-test.true
-    in
-    let here = low.here in
-    let few = c.requires.high in
-    let size = c.type_inv.rows in
-    let xl = c.requires.x in
-    let b : c.args.x < length c.args.rows.now = omega (arith, xl, few, size) in
-    let len : length (get_or c.args.rows.now c.args.x c.index-rows-x.result) ≡ c.args.elements =
-    ap length (get_or_default c.args.rows.now c.args.x c.index-rows-x.result [] b) ∙ c.requires.rows c.args.x b in
-    omega (arith, here, len)
+pub are_balanced-requires : goal.are_balanced-requires
+are_balanced-requires c =
+    let x = inside c.requires.x c.requires.high c.type_inv.rows in
+    let here = (lowest_bit _ _ c.requires.high c.loop-rest.invariant.within c.loop-rest-test.true).here in
+    record {
+      second = same_lengths c.args.rows.now c.args.elements c.args.y c.args.x _ _ c.requires.rows
+          (inside c.requires.y c.requires.high c.type_inv.rows) x;
+      third = same_lengths c.args.rows.now c.args.elements (trailing_zeros w32 c.loop-rest.rest) c.args.x _ _
+          c.requires.rows (inside here c.requires.high c.type_inv.rows) x;
+      y_low = search rules;
+      y_high = place_in_row c.args.rows.now c.args.elements c.args.y c.args.x _ c.requires.rows x c.requires.y;
+      z_low = search rules;
+      z_high = place_in_row c.args.rows.now c.args.elements (trailing_zeros w32 c.loop-rest.rest) c.args.x _
+          c.requires.rows x here;
+    }
 
 pub loop-rest-smaller : goal.loop-rest-smaller
-loop-rest-smaller c =
-    let low : IsLowest c.loop-rest.rest c.args.elements (trailing_zeros w32 c.loop-rest.rest) =
-    lowest_bit c.loop-rest.rest c.args.elements c.requires.high c.loop-rest.invariant.within c.loop-rest-test.true
-    in
-    low.smaller
+loop-rest-smaller c = (lowest_bit _ _ c.requires.high c.loop-rest.invariant.within c.loop-rest-test.true).smaller
 
 pub loop-rest-preserved : goal.loop-rest-preserved
 loop-rest-preserved c =
-    let tz = trailing_zeros w32 c.loop-rest.rest in
-    let low : IsLowest c.loop-rest.rest c.args.elements tz =
-    lowest_bit c.loop-rest.rest c.args.elements c.requires.high c.loop-rest.invariant.within c.loop-rest-test.true
-    in
-    let here = low.here in
-    let few = c.requires.high in
-    let size = c.type_inv.rows in
-    let xl = c.requires.x in
-    let yl = c.requires.y in
-    let a : tz < length c.args.rows.now = omega (arith, here, few, size) in
-    let b : c.args.x < length c.args.rows.now = omega (arith, xl, few, size) in
-    let d : c.args.y < length c.args.rows.now = omega (arith, yl, few, size) in
-    cleared_more c.args.later c.loop-rest.rest c.args.elements tz (λ k. IsTriple c.args.rows.now c.args.x c.args.y k)
-    c.requires.high low
-    (triple_of_rows c.args.rows.now c.args.x c.args.y tz (get_or c.args.rows.now c.args.x c.index-rows-x.result)
-    (get_or c.args.rows.now c.args.y c.index-rows-y.result) (get_or c.args.rows.now tz c.index-rows-z.result)
-    (get_or_default c.args.rows.now c.args.x c.index-rows-x.result [] b)
-    (get_or_default c.args.rows.now c.args.y c.index-rows-y.result [] d)
-    (get_or_default c.args.rows.now tz c.index-rows-z.result [] a)
-    (c.if-not-are_balanced.ensures.0 refl))
+    let low = (lowest_bit _ _ c.requires.high c.loop-rest.invariant.within c.loop-rest-test.true) in
+    cleared_more _ _ _ _ (λ k. IsTriple c.args.rows.now c.args.x c.args.y k) c.requires.high low
+    (triple_of_rows _ _ _ _ _ _ _
+    (read _ _ c.requires.x c.requires.high c.type_inv.rows) (read _ _ c.requires.y c.requires.high c.type_inv.rows)
+    (read _ _ low.here c.requires.high c.type_inv.rows) (c.if-not-are_balanced.ensures.0 refl))
     c.loop-rest.invariant
 
 pub returns-then-not-are_balanced : goal.returns-then-not-are_balanced
 returns-then-not-are_balanced c =
-    let tz = trailing_zeros w32 c.loop-rest.rest in
-    let low : IsLowest c.loop-rest.rest c.args.elements tz =
-    lowest_bit c.loop-rest.rest c.args.elements c.requires.high c.loop-rest.invariant.within c.loop-rest-test.true
-    in
-    let here = low.here in
-    let few = c.requires.high in
-    let size = c.type_inv.rows in
-    let xl = c.requires.x in
-    let yl = c.requires.y in
-    let a : tz < length c.args.rows.now = omega (arith, here, few, size) in
-    let b : c.args.x < length c.args.rows.now = omega (arith, xl, few, size) in
-    let d : c.args.y < length c.args.rows.now = omega (arith, yl, few, size) in (
+    let low = (lowest_bit _ _ c.requires.high c.loop-rest.invariant.within c.loop-rest-test.true) in (
       λ t. absurd (false≢true t),
       λ all. absurd (false≢true (c.if-not-are_balanced.ensures.1
-          (triple_to_rows c.args.rows.now c.args.x c.args.y tz (get_or c.args.rows.now c.args.x c.index-rows-x.result)
-          (get_or c.args.rows.now c.args.y c.index-rows-y.result) (get_or c.args.rows.now tz c.index-rows-z.result)
-          (get_or_default c.args.rows.now c.args.x c.index-rows-x.result [] b)
-          (get_or_default c.args.rows.now c.args.y c.index-rows-y.result [] d)
-          (get_or_default c.args.rows.now tz c.index-rows-z.result [] a)
-          (all tz (c.loop-rest.invariant.part tz low.bit))))),
+          (triple_to_rows _ _ _ _ _ _ _
+          (read _ _ c.requires.x c.requires.high c.type_inv.rows) (read _ _ c.requires.y c.requires.high c.type_inv.rows)
+          (read _ _ low.here c.requires.high c.type_inv.rows)
+          (all _ (c.loop-rest.invariant.part _ low.bit))))),
     )
 
 pub returns : goal.returns
@@ -121,33 +76,8 @@ returns c = (
   λ all. refl,
 )
 
-pub are_balanced-requires-clause-second : goal.are_balanced-requires-clause-second
-are_balanced-requires-clause-second c =
-    let few = c.requires.high in
-    let size = c.type_inv.rows in
-    let xl = c.requires.x in
-    let yl = c.requires.y in
-    same_lengths c.args.rows.now c.args.elements c.args.y c.args.x _ _ c.requires.rows
-    (omega (arith, yl, few, size)) (omega (arith, xl, few, size))
-
-pub are_balanced-requires-clause-y_high : goal.are_balanced-requires-clause-y_high
-are_balanced-requires-clause-y_high c =
-    let few = c.requires.high in
-    let size = c.type_inv.rows in
-    let xl = c.requires.x in
-    place_in_row c.args.rows.now c.args.elements c.args.y c.args.x _ c.requires.rows (omega (arith, xl, few, size))
-    c.requires.y
-
 pub listed : goal.listed
-listed c =
-    let few = c.requires.high in
-    let size = c.type_inv.rows in
-    let xl = c.requires.x in
-    omega (arith, xl, few, size)
+listed c = inside c.requires.x c.requires.high c.type_inv.rows
 
 pub listed-2 : goal.listed-2
-listed-2 c =
-    let few = c.requires.high in
-    let size = c.type_inv.rows in
-    let yl = c.requires.y in
-    omega (arith, yl, few, size)
+listed-2 c = inside c.requires.y c.requires.high c.type_inv.rows
