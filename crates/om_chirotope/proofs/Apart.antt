@@ -3,10 +3,11 @@
 -- Main definitions: IsOrthogonalBelow
 -- Main results: orthogonal_more, orthogonal_to_all and first_at, for a walk over the sets A; first_in_table and
 -- none_in_table, for a table; first_violated, pair_found and all_below_more, for the scan over the sets S
-use Rattle.std.specs.Prelude.{ℕ, ◌≡◌, ◌+◌, ◌-◌, ◌<◌, ◌≤◌, ◌↔◌, List, [], length}
+use Rattle.std.specs.Prelude.{ℕ, ◌≡◌, ◌+◌, ◌-◌, ◌<◌, ◌≤◌, ◌↔◌, List, [], ◌∷◌, ◌++◌, length}
 use Rattle.std.specs.Prelude.{Option, Some, None, IsNone, IfNone}
 use Rattle.std.proofs.Common.{sym, ◌∙◌, ap, arith, inl, inr, subst, get_or}
 use Rattle.std.proofs.lemmas.Bool.{cases_eq, false≢true}
+use Rattle.std.proofs.lemmas.List.{length-append}
 use Rattle.om_signs.specs.declared.sign.Sign.{Sign}
 use Rattle.om_signs.specs.SignVec.{IsOrthogonal}
 use Rattle.om_subsets.specs.Subsets.{choose, rank_of, IsSubsetFrom}
@@ -26,16 +27,16 @@ IsOrthogonalBelow m v k = (b : List ℕ) → IsSubsetFrom 1 m.elements b → len
     → IsOrthogonal v (cocircuit_vector m b)
 
 -- it is orthogonal to that of one more
-pub orthogonal_more : (m : SignMap) (v : List Sign) (k : ℕ) (a : Chosen) → 1 ≤ m.rank
-    → IsPlaced m.elements (m.rank - 1) k a → IsOrthogonal v (cocircuit_vector m a.elements) → IsOrthogonalBelow m v k
-    → IsOrthogonalBelow m v (k + 1)
-orthogonal_more m v k a low placed here all b list size lt = elim (cases_eq (rank_of m.elements b) k) [
+pub orthogonal_more : {X : Type 0} (m : SignMap) (v : List Sign) (xs : List X) (x : X) (a : Chosen) → 1 ≤ m.rank
+    → IsPlaced m.elements (m.rank - 1) (length xs) a → IsOrthogonal v (cocircuit_vector m a.elements)
+    → IsOrthogonalBelow m v (length xs) → IsOrthogonalBelow m v (length (xs ++ x ∷ []))
+orthogonal_more m v xs x a low placed here all b list size lt = elim (cases_eq (rank_of m.elements b) (length xs)) [
   | inl e ↦
       let many = placed.size in
       let same : b ≡ a.elements = same_place m.elements b a.elements list placed.list (omega (arith, size, many, low))
       (e ∙ sym placed.place) in
       subst (λ c. IsOrthogonal v (cocircuit_vector m c)) (sym same) here
-  | inr n ↦ all b list size (omega (arith, lt, n))
+  | inr n ↦ let more = length-append xs (x ∷ []) in all b list size (omega (arith, lt, n, more))
 ]
 
 -- after the last set it is orthogonal to all
@@ -129,13 +130,14 @@ pair_found m s a first = (
 )
 
 -- one more set S has orthogonal pairs alone
-pub all_below_more : (m : SignMap) (s : Chosen) (k : ℕ) (u : List Sign) → IsPlaced m.elements (m.rank + 1) k s
-    → u ≡ circuit_vector m s.elements → IsOrthogonalToAll m u → AllBelow m k → AllBelow m (k + 1)
-all_below_more m s k u placed e held all t b p lt = elim (cases_eq (rank_of m.elements t) k) [
+pub all_below_more : {X : Type 0} (m : SignMap) (xs : List X) (x : X) (s : Chosen) (u : List Sign)
+    → IsPlaced m.elements (m.rank + 1) (length xs) s → u ≡ circuit_vector m s.elements → IsOrthogonalToAll m u
+    → AllBelow m (length xs) → AllBelow m (length (xs ++ x ∷ []))
+all_below_more m xs x s u placed e held all t b p lt = elim (cases_eq (rank_of m.elements t) (length xs)) [
   | inl q ↦
       let same : t ≡ s.elements = same_place m.elements t s.elements p.s_list placed.list (p.s_size ∙ sym placed.size)
       (q ∙ sym placed.place) in
       subst (λ v. IsOrthogonal v (cocircuit_vector m b)) (e ∙ ap (circuit_vector m) (sym same))
       (held b p.a_list p.a_size)
-  | inr n ↦ all t b p (omega (arith, lt, n))
+  | inr n ↦ let more = length-append xs (x ∷ []) in all t b p (omega (arith, lt, n, more))
 ]

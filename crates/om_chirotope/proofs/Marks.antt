@@ -3,10 +3,11 @@
 -- Main definitions: AreBasesMarkedBelow, AreMarkedUpTo
 -- Main results: mark_kept, basis_marked, all_marked, none_marked, mark_only, basis_in_itself, nothing_above,
 -- above_more, all_above; turn_marked and turn_left_out, for a walk over the sets
-use Rattle.std.specs.Prelude.{ℕ, ◌≡◌, ◌≢◌, ◌+◌, ◌-◌, ◌*◌, ◌/◌, ◌%◌, ◌<◌, ◌≤◌, ◌^◌, ◌⊎◌, ◌↔◌, List, length}
+use Rattle.std.specs.Prelude.{ℕ, ◌≡◌, ◌≢◌, ◌+◌, ◌-◌, ◌*◌, ◌/◌, ◌%◌, ◌<◌, ◌≤◌, ◌^◌, ◌⊎◌, ◌↔◌, List, [], ◌∷◌, ◌++◌, length}
 use Rattle.std.specs.Int.{bit_at}
 use Rattle.std.proofs.Common.{refl, sym, ◌∙◌, ap, arith, inl, inr, subst, get_or}
 use Rattle.std.proofs.lemmas.Bool.{cases_eq}
+use Rattle.std.proofs.lemmas.List.{length-append}
 use Rattle.std.proofs.lemmas.Nat.Bits.{bit_at_above, bit_at-zero, same_from_bits_below}
 use Rattle.om_signs.specs.declared.sign.Sign.TheVariants.{Zero}
 use Rattle.om_signs.specs.SignVec.{IsMaskOf}
@@ -208,23 +209,27 @@ all_above m words e le all = record {
 -- ---- the turns of a walk over the sets
 
 -- a turn marks its set, which is a basis
-pub turn_marked : (m : SignMap) (words marked : List ℕ) (k mask : ℕ) (b : Chosen) → IsTurn m.elements m.rank k b
+pub turn_marked : {X : Type 0} (m : SignMap) (words marked : List ℕ) (xs : List X) (x : X) (mask : ℕ) (b : Chosen)
+    → IsTurn m.elements m.rank (length xs) b
     → mask ≡ mask_of 1 b.elements b.n → (value_of m b.elements ≢ Zero) → length marked ≡ length words
     → IsMarked marked mask → ((j : ℕ) → j ≢ mask → mark_at marked j ≡ mark_at words j)
-    → AreBasesMarkedBelow m words k → AreBasesMarkedBelow m marked (k + 1)
-turn_marked m words marked k mask b turn e nonzero size here others all =
+    → AreBasesMarkedBelow m words (length xs) → AreBasesMarkedBelow m marked (length (xs ++ x ∷ []))
+turn_marked m words marked xs x mask b turn e nonzero size here others all =
     let at = turn.at in
     let same : mask ≡ mask_of 1 b.elements m.elements = e ∙ ap (λ n. mask_of 1 b.elements n) at.n_is in
-    basis_marked m words marked b.elements k at.list at.size (at.place turn.inside) size
+    rw (length-append xs (x ∷ []))
+    (basis_marked m words marked b.elements (length xs) at.list at.size (at.place turn.inside) size
     (λ j h. mark_kept words marked mask j here (others j) h) (λ basis. subst (IsMarked marked) same here)
     (mark_only m words marked mask
     (basis_in_itself m b.elements mask same (record { list = at.list; size = at.size; nonzero = nonzero }))
-    others all.only) all
+    others all.only) all)
 
 -- a turn leaves out its set, which is no basis
-pub turn_left_out : (m : SignMap) (words : List ℕ) (k : ℕ) (b : Chosen) → IsTurn m.elements m.rank k b
-    → (value_of m b.elements ≢ Zero → ⊥) → AreBasesMarkedBelow m words k → AreBasesMarkedBelow m words (k + 1)
-turn_left_out m words k b turn zero all =
+pub turn_left_out : {X : Type 0} (m : SignMap) (words : List ℕ) (xs : List X) (x : X) (b : Chosen)
+    → IsTurn m.elements m.rank (length xs) b → (value_of m b.elements ≢ Zero → ⊥)
+    → AreBasesMarkedBelow m words (length xs) → AreBasesMarkedBelow m words (length (xs ++ x ∷ []))
+turn_left_out m words xs x b turn zero all =
     let at = turn.at in
-    basis_marked m words words b.elements k at.list at.size (at.place turn.inside) refl (λ j h. h)
-    (λ basis. absurd (zero basis.nonzero)) all.only all
+    rw (length-append xs (x ∷ []))
+    (basis_marked m words words b.elements (length xs) at.list at.size (at.place turn.inside) refl (λ j h. h)
+    (λ basis. absurd (zero basis.nonzero)) all.only all)

@@ -29,7 +29,8 @@ pub fn check<R: Threads + Sync>(rt: &R, raw: RawMap) -> Result<Chirotope, BadMap
     ensures value { IfOk result (λ c. c ≡ map_of raw) }
     ensures kept { IfErr result (λ bad. bad.raw ≡ raw) }
     ensures all_zero { IfErr result (λ bad. (bad.why ≡ MapRefused.AllZero) ↔ IsAllZero raw.signs) }
-    ensures relation { IfErr result (λ bad. (s a : Chosen) → bad.why ≡ MapRefused.Relation s a → IsFirstViolated (map_of raw) s a) }
+    ensures relation { IfErr result (λ bad. (s a : Chosen) → bad.why ≡ MapRefused.Relation s a
+        → IsFirstViolated (map_of raw) s a) }
 {
     if is_all_zero(raw.signs.as_slice()) {
         return Err(BadMap {

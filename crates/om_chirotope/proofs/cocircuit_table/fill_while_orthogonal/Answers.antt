@@ -1,11 +1,11 @@
-use Rattle.std.proofs.Common.{◌∙◌, ◌-◌, ◌+◌, ◌∷◌, [], ap, arith, inl, length, refl, subst, sym}
+use Rattle.std.proofs.Common.{◌∙◌, ◌-◌, ap, arith, inl, length, refl, subst, sym}
 use Rattle.std.proofs.lemmas.Bool.{false≢true}
-use Rattle.std.proofs.lemmas.List.{length-append, length-set}
+use Rattle.std.proofs.lemmas.List.{length-set}
 use Rattle.om_signs.specs.SignVec.{IsOrthogonal}
 use Rattle.om_laws.specs.Relations.{along}
 use Rattle.om_laws.proofs.BridgeLaws.{length-as_list}
 use Rattle.om_chirotope.specs.Map.{value_of}
-use Rattle.om_chirotope.proofs.Apart.{IsOrthogonalBelow, first_at, orthogonal_more}
+use Rattle.om_chirotope.proofs.Apart.{first_at, orthogonal_more}
 use Rattle.om_chirotope.proofs.NumberedSets.{are_numbered, first_fits, number_fits, numbered_turn, numbered_end}
 use Rattle.om_chirotope.proofs.Placed.{turn_placed}
 use Rattle.om_chirotope.proofs.Tables.{IsFilledBelow, filled_more, place_fits, table_done}
@@ -60,10 +60,6 @@ loop-place-preserved c =
     c.next.ensures.steps in
     let fits = number_fits _ _ _ c.loop-place.invariant.numbered c.loop-place.yielded_by c.in-Some.is
     c.next.ensures.steps in
-    let held : IsOrthogonalBelow m c.args.vector (length c.loop-place.yielded + 1) =
-    orthogonal_more m c.args.vector _ c.in-Some.a c.requires.rank_low (turn_placed _ _ _ _ turn.turn)
-    (subst (IsOrthogonal c.args.vector) c.cocircuit_of-other.ensures (c.if-not-orthogonal.ensures.0 refl))
-    c.loop-place.invariant.held in
     record {
       can = (tt, tt, inl fits);
       finite = tt;
@@ -72,7 +68,10 @@ loop-place-preserved c =
       filled = filled_more m c.loop-place.table _ c.loop-place.yielded (c.in-Some.place, c.in-Some.a)
           c.cocircuit_of-other.result turn c.loop-place.invariant.size c.requires.room c.cocircuit_of-other.ensures
           c.loop-place.invariant.filled;
-      held = rw (length-append c.loop-place.yielded ((c.in-Some.place, c.in-Some.a) ∷ [])) held;
+      held = orthogonal_more m c.args.vector c.loop-place.yielded _ c.in-Some.a c.requires.rank_low
+          (turn_placed _ _ _ _ turn.turn)
+          (subst (IsOrthogonal c.args.vector) c.cocircuit_of-other.ensures (c.if-not-orthogonal.ensures.0 refl))
+          c.loop-place.invariant.held;
     }
 
 pub returns-clause-none : goal.returns-clause-none

@@ -1,12 +1,11 @@
-use Rattle.std.proofs.Common.{◌∙◌, ◌-◌, ◌+◌, ◌∷◌, [], ap, arith, length, refl, subst, sym}
+use Rattle.std.proofs.Common.{◌∙◌, ◌-◌, ap, arith, length, refl, subst, sym}
 use Rattle.std.proofs.lemmas.Bool.{false≢true}
-use Rattle.std.proofs.lemmas.List.{length-append}
 use Rattle.om_signs.specs.SignVec.{IsOrthogonal}
 use Rattle.om_laws.specs.Relations.{along}
 use Rattle.om_laws.proofs.BridgeLaws.{length-as_list}
 use Rattle.om_subsets.proofs.SetChains.{at_turn, number_at_end}
 use Rattle.om_chirotope.specs.Map.{value_of}
-use Rattle.om_chirotope.proofs.Apart.{IsOrthogonalBelow, first_at, orthogonal_more, orthogonal_to_all}
+use Rattle.om_chirotope.proofs.Apart.{first_at, orthogonal_more, orthogonal_to_all}
 use Rattle.om_chirotope.proofs.NumberedSets.{sets_of_map}
 use Rattle.om_chirotope.proofs.Placed.{IsPlaced, turn_placed}
 use Rattle.om_chirotope.proofs.cocircuit_table.first_apart_from.Goals as goal
@@ -49,13 +48,15 @@ returns-then-not-orthogonal-clause-first c =
     c.loop-a.invariant.held
 
 pub loop-a-preserved : goal.loop-a-preserved
-loop-a-preserved c =
-    let k = length c.loop-a.yielded in
-    let held : IsOrthogonalBelow c.args.map.now c.args.vector (k + 1) =
-    orthogonal_more c.args.map.now c.args.vector k c.in-Some.a c.requires.rank_low (here c.before.before)
-    (subst (IsOrthogonal c.args.vector) c.cocircuit_of.ensures (c.if-not-orthogonal.ensures.0 refl))
-    c.loop-a.invariant.held in
-    record { can = tt; finite = tt; sets = c.loop-a.invariant.sets; held = rw (length-append c.loop-a.yielded (c.in-Some.a ∷ [])) held }
+loop-a-preserved c = record {
+  can = tt;
+  finite = tt;
+  sets = c.loop-a.invariant.sets;
+  held = orthogonal_more c.args.map.now c.args.vector c.loop-a.yielded _ c.in-Some.a c.requires.rank_low
+      (here c.before.before)
+      (subst (IsOrthogonal c.args.vector) c.cocircuit_of.ensures (c.if-not-orthogonal.ensures.0 refl))
+      c.loop-a.invariant.held;
+}
 
 pub returns-clause-none : goal.returns-clause-none
 returns-clause-none c =

@@ -1,8 +1,7 @@
-use Rattle.std.proofs.Common.{arith, refl, sym, ap, inl, subst, ◌∙◌, ◌+◌, ◌<◌, ◌^◌, ◌∷◌, [], length}
+use Rattle.std.proofs.Common.{arith, refl, sym, ap, inl, subst, ◌∙◌, ◌<◌, ◌^◌, length}
 use Rattle.std.proofs.lemmas.Bool.{false≢true}
-use Rattle.std.proofs.lemmas.List.{length-append}
 use Rattle.om_subsets.specs.Subsets.{rank_of, IsSubsetFrom}
-use Rattle.om_chirotope.proofs.Marks.{AreBasesMarkedBelow, all_marked, none_marked, turn_left_out, turn_marked}
+use Rattle.om_chirotope.proofs.Marks.{all_marked, none_marked, turn_left_out, turn_marked}
 use Rattle.om_chirotope.proofs.NumberedSets.{are_numbered, first_fits, number_fits, numbered_turn, numbered_end}
 use Rattle.om_chirotope.proofs.marking.mark_bases.Goals as goal
 
@@ -46,15 +45,13 @@ loop-place-preserved-then-is_nonzero c =
     c.next.ensures.steps).turn in
     let fits = number_fits _ _ _ c.loop-place.invariant.numbered c.loop-place.yielded_by c.in-Some.is
     c.next.ensures.steps in
-    let marked : AreBasesMarkedBelow m c.mark.new.words (length c.loop-place.yielded + 1) =
-    turn_marked m c.loop-place.words c.mark.new.words _ c.mask.result c.in-Some.b turn c.mask.ensures.value
-    (λ z. c.if-is_nonzero.ensures.0 refl (c.sign_of.ensures.value ∙ z)) c.mark.auto.words c.mark.ensures.here
-    c.mark.ensures.others c.loop-place.invariant.marked in
     record {
       can = (tt, tt, inl fits);
       finite = tt;
       numbered = c.loop-place.invariant.numbered;
-      marked = rw (length-append c.loop-place.yielded ((c.in-Some.place, c.in-Some.b) ∷ [])) marked;
+      marked = turn_marked m c.loop-place.words c.mark.new.words c.loop-place.yielded _ c.mask.result c.in-Some.b turn
+          c.mask.ensures.value (λ z. c.if-is_nonzero.ensures.0 refl (c.sign_of.ensures.value ∙ z)) c.mark.auto.words
+          c.mark.ensures.here c.mark.ensures.others c.loop-place.invariant.marked;
     }
 
 pub loop-place-preserved : goal.loop-place-preserved
@@ -64,15 +61,13 @@ loop-place-preserved c =
     c.next.ensures.steps).turn in
     let fits = number_fits _ _ _ c.loop-place.invariant.numbered c.loop-place.yielded_by c.in-Some.is
     c.next.ensures.steps in
-    let marked : AreBasesMarkedBelow m c.loop-place.words (length c.loop-place.yielded + 1) =
-    turn_left_out m c.loop-place.words _ c.in-Some.b turn
-    (λ nonzero. false≢true (c.if-is_nonzero.ensures.1 (λ z. nonzero (sym c.sign_of.ensures.value ∙ z))))
-    c.loop-place.invariant.marked in
     record {
       can = (tt, tt, inl fits);
       finite = tt;
       numbered = c.loop-place.invariant.numbered;
-      marked = rw (length-append c.loop-place.yielded ((c.in-Some.place, c.in-Some.b) ∷ [])) marked;
+      marked = turn_left_out m c.loop-place.words c.loop-place.yielded _ c.in-Some.b turn
+          (λ nonzero. false≢true (c.if-is_nonzero.ensures.1 (λ z. nonzero (sym c.sign_of.ensures.value ∙ z))))
+          c.loop-place.invariant.marked;
     }
 
 pub returns : goal.returns

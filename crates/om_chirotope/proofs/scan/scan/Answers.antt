@@ -1,5 +1,4 @@
-use Rattle.std.proofs.Common.{◌∙◌, ◌+◌, ◌∷◌, [], ap, arith, length, refl}
-use Rattle.std.proofs.lemmas.List.{length-append}
+use Rattle.std.proofs.Common.{◌∙◌, ◌+◌, ap, arith, length, refl}
 use Rattle.om_laws.specs.Relations.{around}
 use Rattle.om_laws.proofs.BridgeLaws.{length-as_list}
 use Rattle.om_subsets.proofs.SetChains.{at_turn, number_at_end}
@@ -7,7 +6,7 @@ use Rattle.om_chirotope.specs.Map.{value_of}
 use Rattle.om_chirotope.proofs.Apart.{all_below_more, first_violated, pair_found}
 use Rattle.om_chirotope.proofs.NumberedSets.{sets_of_map}
 use Rattle.om_chirotope.proofs.Placed.{IsPlaced, turn_placed}
-use Rattle.om_chirotope.proofs.Tables.{AllBelow, all_done}
+use Rattle.om_chirotope.proofs.Tables.{all_done}
 use Rattle.om_chirotope.proofs.scan.scan.Goals as goal
 use Rattle.om_chirotope.proofs.scan.scan.Goals.{After-circuit_of}
 
@@ -49,12 +48,13 @@ returns-in-Some-first_apart_in-clause-none c =
     c.circuit_of.ensures c.in-Some-first_apart_in.ensures.first c.loop-s.invariant.all)
 
 pub loop-s-preserved : goal.loop-s-preserved
-loop-s-preserved c =
-    let m = c.args.map.now in
-    let all : AllBelow m (length c.loop-s.yielded + 1) =
-    all_below_more m c.in-Some.s _ c.circuit_of.result (here c.before.before) c.circuit_of.ensures
-    c.in_default.ensures.none c.loop-s.invariant.all in
-    record { can = tt; finite = tt; sets = c.loop-s.invariant.sets; all = rw (length-append c.loop-s.yielded (c.in-Some.s ∷ [])) all }
+loop-s-preserved c = record {
+  can = tt;
+  finite = tt;
+  sets = c.loop-s.invariant.sets;
+  all = all_below_more c.args.map.now c.loop-s.yielded _ c.in-Some.s c.circuit_of.result (here c.before.before)
+      c.circuit_of.ensures c.in_default.ensures.none c.loop-s.invariant.all;
+}
 
 pub returns-clause-none : goal.returns-clause-none
 returns-clause-none c =
