@@ -1,7 +1,7 @@
 -- What the table of the vectors U says of the pairs with a set S.
 --
 -- Main results: table_done, table_held, all_done and found, for the scan over the sets S; no_pairs_above,
--- no_pairs_of_rank_zero and part_before; some_rank and rank_below; taken_size,
+-- no_pairs_of_rank_zero and part_before; one_below, some_rank and rank_below; taken_size,
 -- taken_within and taken_room.
 use Rattle.std.specs.Prelude.{ℕ, ◌≡◌, ◌+◌, ◌-◌, ◌*◌, ◌<◌, ◌≤◌, List, [], ◌∷◌, ◌++◌, length, take}
 use Rattle.std.proofs.Common.{sym, ◌∙◌, ap, arith, inl, inr, subst, get_or, set}
@@ -170,6 +170,10 @@ no_pairs_of_rank_zero m e s a p = let l = p.a_size in absurd (omega (arith, e, l
 -- a set A has no more elements than the map
 pub part_before : (rank elements : ℕ) → rank < elements → rank - 1 ≤ elements
 part_before rank elements h = omega arith
+
+-- a set of one element less than the rank
+pub one_below : {size rank : ℕ} → 1 ≤ rank → size ≡ rank - 1 → size + 1 ≡ rank
+one_below low e = omega (arith, low, e)
 
 -- a rank that isn't 0
 pub some_rank : (rank : ℕ) → (rank ≡ 0 → ⊥) → 1 ≤ rank

@@ -1,13 +1,14 @@
 -- Three rows of signs are balanced exactly where their masks say so, and three rows of a table.
 --
 -- Main results: balanced_of_masks, same_bits, masks_of_balanced, triple_of_rows, triple_to_rows; row_length,
--- same_lengths and place_in_row
+-- same_lengths, place_in_row, row_inside and row_read
 use Rattle.std.specs.Prelude.{ℕ, ◌≡◌, ◌≢◌, ◌+◌, ◌<◌, ◌≤◌, ◌^◌, ◌⊎◌, List, [], length, refl, bit_or}
 use Rattle.std.specs.Int.{bit_at}
 use Rattle.std.proofs.Common.{sym, ◌∙◌, ap, arith, inl, inr, subst, get_or, max}
 use Rattle.std.proofs.lemmas.Bool.{cases_eq, cases_lt}
 use Rattle.std.proofs.lemmas.List.{get_or_default}
 use Rattle.std.proofs.lemmas.Nat.Bits.{bit_at-lt, bit_at_or, bit_at_above, same_from_bits}
+use Rattle.om_signs.specs.declared.limits.TheConstants.{MAX_PLACES}
 use Rattle.om_signs.specs.declared.sign.Sign.{Sign}
 use Rattle.om_signs.specs.declared.sign.Sign.TheVariants.{Minus, Zero, Plus}
 use Rattle.om_signs.specs.Sign.{opposite, product}
@@ -230,3 +231,12 @@ same_lengths rows n j k other another h lj lk = row_length rows n j other h lj �
 pub place_in_row : (rows : List (List Sign)) (n j k : ℕ) (other : List Sign) → AreLong rows n → k < length rows → j < n
     → j + 1 ≤ length (get_or rows k other)
 place_in_row rows n j k other h lk l = let e = row_length rows n k other h lk in omega (arith, e, l)
+
+-- an element has a row
+pub row_inside : {k n l : ℕ} → k < n → n ≤ MAX_PLACES → l ≡ MAX_PLACES → k < l
+row_inside p q r = omega (arith, p, q, r)
+
+-- the read of its row doesn't give the default
+pub row_read : (rows : List (List Sign)) (d : List Sign) {k n : ℕ} → k < n → n ≤ MAX_PLACES
+    → length rows ≡ MAX_PLACES → get_or rows k d ≡ get_or rows k []
+row_read rows d {k} p q r = get_or_default rows k d [] (row_inside p q r)

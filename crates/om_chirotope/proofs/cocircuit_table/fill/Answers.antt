@@ -1,7 +1,7 @@
 use Rattle.std.proofs.Common.{◌∙◌, ◌-◌, arith, inl, refl, subst}
 use Rattle.std.proofs.lemmas.List.{length-set}
 use Rattle.om_chirotope.proofs.NumberedSets.{are_numbered, first_fits, number_fits, numbered_turn, numbered_end}
-use Rattle.om_chirotope.proofs.Tables.{IsFilledBelow, filled_more, place_fits, table_done}
+use Rattle.om_chirotope.proofs.Tables.{IsFilledBelow, filled_more, place_fits, table_done, one_below}
 use Rattle.om_chirotope.proofs.cocircuit_table.fill.Goals as goal
 
 pub loop-place-init : goal.loop-place-init
@@ -21,9 +21,7 @@ pub cocircuit_of-requires : goal.cocircuit_of-requires
 cocircuit_of-requires c =
     let turn = (numbered_turn _ _ _ c.loop-place.invariant.numbered c.loop-place.yielded_by c.in-Some.is
     c.next.ensures.steps).turn in
-    let low = c.requires.rank_low in
-    let size = turn.at.size in
-    record { n = turn.at.n_is; size = omega (arith, low, size) }
+    record { n = turn.at.n_is; size = one_below c.requires.rank_low turn.at.size }
 
 pub bounds-table-place : goal.bounds-table-place
 bounds-table-place c =

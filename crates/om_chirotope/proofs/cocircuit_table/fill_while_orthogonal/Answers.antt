@@ -8,7 +8,7 @@ use Rattle.om_chirotope.specs.Map.{value_of}
 use Rattle.om_chirotope.proofs.Apart.{first_at, orthogonal_more}
 use Rattle.om_chirotope.proofs.NumberedSets.{are_numbered, first_fits, number_fits, numbered_turn, numbered_end}
 use Rattle.om_chirotope.proofs.Placed.{turn_placed}
-use Rattle.om_chirotope.proofs.Tables.{IsFilledBelow, filled_more, place_fits, table_done}
+use Rattle.om_chirotope.proofs.Tables.{IsFilledBelow, filled_more, place_fits, table_done, one_below}
 use Rattle.om_chirotope.proofs.cocircuit_table.fill_while_orthogonal.Goals as goal
 
 pub loop-place-init : goal.loop-place-init
@@ -29,9 +29,7 @@ pub cocircuit_of-other-requires : goal.cocircuit_of-other-requires
 cocircuit_of-other-requires c =
     let turn = (numbered_turn _ _ _ c.loop-place.invariant.numbered c.loop-place.yielded_by c.in-Some.is
     c.next.ensures.steps).turn in
-    let low = c.requires.rank_low in
-    let size = turn.at.size in
-    record { n = turn.at.n_is; size = omega (arith, low, size) }
+    record { n = turn.at.n_is; size = one_below c.requires.rank_low turn.at.size }
 
 pub orthogonal-requires : goal.orthogonal-requires
 orthogonal-requires c = c.requires.vector

@@ -8,6 +8,7 @@ use Rattle.om_chirotope.specs.Map.{value_of}
 use Rattle.om_chirotope.proofs.Apart.{first_at, orthogonal_more, orthogonal_to_all}
 use Rattle.om_chirotope.proofs.NumberedSets.{sets_of_map}
 use Rattle.om_chirotope.proofs.Placed.{IsPlaced, turn_placed}
+use Rattle.om_chirotope.proofs.Tables.{one_below}
 use Rattle.om_chirotope.proofs.cocircuit_table.first_apart_from.Goals as goal
 use Rattle.om_chirotope.proofs.cocircuit_table.first_apart_from.Goals.{After-cocircuit_of}
 
@@ -24,9 +25,7 @@ pub cocircuit_of-requires : goal.cocircuit_of-requires
 cocircuit_of-requires c =
     let turn = at_turn c.args.map.now.elements (c.args.map.now.rank - 1) _ _ _
     c.loop-a.invariant.sets c.loop-a.yielded_by c.in-Some.is c.next.ensures.steps in
-    let low = c.requires.rank_low in
-    let size = turn.at.size in
-    record { n = turn.at.n_is; size = omega (arith, low, size) }
+    record { n = turn.at.n_is; size = one_below c.requires.rank_low turn.at.size }
 
 -- the set of a turn
 here : (c : After-cocircuit_of) → IsPlaced c.args.map.now.elements (c.args.map.now.rank - 1) (length c.loop-a.yielded)

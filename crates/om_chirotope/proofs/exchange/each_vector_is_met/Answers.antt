@@ -8,7 +8,7 @@ use Rattle.om_chirotope.specs.Map.{cocircuit_vector, cocircuit_vectors, value_of
 use Rattle.om_chirotope.specs.Pictures.{IsMet}
 use Rattle.om_chirotope.proofs.NumberedSets.{sets_of_map}
 use Rattle.om_chirotope.proofs.SupportMarks.{exchange_of_met, met_of_exchange}
-use Rattle.om_chirotope.proofs.Tables.{length-table, table_at}
+use Rattle.om_chirotope.proofs.Tables.{length-table, table_at, one_below}
 use Rattle.om_chirotope.proofs.exchange.each_vector_is_met.Goals as goal
 
 pub loop-a-init : goal.loop-a-init
@@ -24,9 +24,7 @@ pub cocircuit_of-requires : goal.cocircuit_of-requires
 cocircuit_of-requires c =
     let turn = at_turn c.args.map.now.elements (c.args.map.now.rank - 1) _ _ _
     c.loop-a.invariant.sets c.loop-a.yielded_by c.in-Some.is c.next.ensures.steps in
-    let low = c.requires.rank_low in
-    let size = turn.at.size in
-    record { n = turn.at.n_is; size = omega (arith, low, size) }
+    record { n = turn.at.n_is; size = one_below c.requires.rank_low turn.at.size }
 
 pub is_met-requires-clause-length : goal.is_met-requires-clause-length
 is_met-requires-clause-length c = ap length c.cocircuit_of.ensures
