@@ -1,5 +1,5 @@
-use Rattle.std.proofs.Common.{ap, ◌∙◌}
-use Rattle.om_points.proofs.Sizes.{two_terms_fit, three_terms_fit, read_terms, terms_size, read_back, read_coefficient}
+use Rattle.std.proofs.Common.{◌∙◌}
+use Rattle.om_points.proofs.Sizes.{two_terms_fit, three_terms_fit, read_terms, terms_size, read_back, read_form}
 use Rattle.om_points.proofs.form.Form.value.Goals as goal
 
 pub overflow_add-result : goal.overflow_add-result
@@ -11,16 +11,17 @@ overflow_add-result-2 c = three_terms_fit c.term.result c.term-2.result c.term-3
 
 pub returns-clause-value : goal.returns-clause-value
 returns-clause-value c =
+    let f = read_form _ _ c.self.invariant c.self.view_is in
     read_terms c.term.result c.term-2.result c.term-3.result c.term.ensures.size c.term-2.ensures.size
     c.term-3.ensures.size ∙ simp (
       c.term.ensures.value,
       c.term-2.ensures.value,
       c.term-3.ensures.value,
-      read_coefficient _ _ c.self.invariant.x (ap (λ f. f.x) c.self.view_is),
+      f.x,
       read_back _ _ c.x.ensures.size c.x.ensures.value,
-      read_coefficient _ _ c.self.invariant.y (ap (λ f. f.y) c.self.view_is),
+      f.y,
       read_back _ _ c.y.ensures.size c.y.ensures.value,
-      read_coefficient _ _ c.self.invariant.z (ap (λ f. f.z) c.self.view_is),
+      f.z,
       read_back _ _ c.z.ensures.size c.z.ensures.value,
     )
 
