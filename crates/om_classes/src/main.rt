@@ -1,5 +1,5 @@
 //! The program `om_classes`: it reads words and lists of chirotopes of rank 3 on standard input, and writes what is shown
-//! of each list to standard output.
+//! of each list, or the least map of the class of each chirotope, to standard output.
 #![tactic(auto)]
 
 use om_classification::{Status, classify};

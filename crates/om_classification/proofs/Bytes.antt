@@ -7,8 +7,9 @@ use Rattle.std.proofs.lemmas.List.{drop_all}
 use Rattle.om_pieces.specs.Making.{Making, fed, last_ended, rest_of, option_list, made}
 use Rattle.om_reply.specs.declared.status.Status.{Status}
 use Rattle.om_reply.specs.declared.status.Status.TheVariants.{Done}
+use Rattle.om_classification.specs.declared.progress.Progress.{Progress}
 use Rattle.om_classification.specs.declared.request.Request.{Request}
-use Rattle.om_classification.specs.Progress.{State, IsGoing, IsOutcome}
+use Rattle.om_classification.specs.Answers.{IsGoing, IsOutcome}
 use Rattle.om_classification.proofs.Written.{still}
 
 pub made_byte : (m now : Making) (piece : Option (List ℕ)) (b : ℕ) (rest : List ℕ)
@@ -23,7 +24,7 @@ bytes_at bytes rest i h =
     (let e : suc i ≡ i + 1 = omega arith in e))
 
 -- a byte behind which the run goes on
-pub loop_going : (r : Request) (all : List (List ℕ)) (now later : Making) (s new : State) (bytes rest : List ℕ) (i : ℕ)
+pub loop_going : (r : Request) (all : List (List ℕ)) (now later : Making) (s new : Progress) (bytes rest : List ℕ) (i : ℕ)
     (t : Status) (o p q : Option (List ℕ)) → i < length bytes → t ≡ Done
     → IsGoing r all s (made now (drop i bytes ++ rest)) o p
     → ((a : List (List ℕ)) (more : List ℕ) (first : Option (List ℕ))
@@ -35,7 +36,7 @@ loop_going r all now later s new bytes rest i t o p q h e g f =
     (f all (drop (i + 1) bytes ++ rest) o (subst (λ l. IsGoing r all s (made now l) o p) (bytes_at bytes rest i h) g))
 
 -- a byte behind which the run ends
-pub loop_outcome : (r : Request) (all : List (List ℕ)) (now later : Making) (s new : State) (bytes rest : List ℕ)
+pub loop_outcome : (r : Request) (all : List (List ℕ)) (now later : Making) (s new : Progress) (bytes rest : List ℕ)
     (i : ℕ) (t : Status) (o p q : Option (List ℕ)) → i < length bytes → (t ≡ Done → ⊥)
     → IsGoing r all s (made now (drop i bytes ++ rest)) o p
     → ((a : List (List ℕ)) (more : List ℕ) (first : Option (List ℕ))
@@ -46,7 +47,7 @@ loop_outcome r all now later s new bytes rest i t o p q h e g f =
     still r all t new new _ (made later rest) o q e
     (f all (drop (i + 1) bytes ++ rest) o (subst (λ l. IsGoing r all s (made now l) o p) (bytes_at bytes rest i h) g))
 
-pub loop_ends : (r : Request) (all : List (List ℕ)) (now : Making) (s : State) (bytes rest : List ℕ) (i : ℕ)
+pub loop_ends : (r : Request) (all : List (List ℕ)) (now : Making) (s : Progress) (bytes rest : List ℕ) (i : ℕ)
     (o p : Option (List ℕ)) → length bytes ≤ i → IsGoing r all s (made now (drop i bytes ++ rest)) o p
     → IsGoing r all s (made now rest) o p
 loop_ends r all now s bytes rest i o p h g =

@@ -11,7 +11,7 @@ use Rattle.om_reply.specs.declared.status.Status.{Status}
 use Rattle.om_reply.specs.declared.status.Status.TheVariants.{Done, Refused, Usage, Limit, ReadFault, WriteFault}
 use Rattle.om_reply.specs.declared.status.Status.TheVariants.{NoMemory}
 use Rattle.om_reply.specs.Statuses.{IsReplied}
-use Rattle.om_classification.specs.declared.request.Request.{Request}
+use Rattle.om_classification.specs.declared.request.ListRequest.{ListRequest}
 use Rattle.om_classification.specs.Texts.{gap_status}
 use Rattle.om_classification.specs.Lists.{IsTextUpToWrong, IsEnded, at_end}
 use Rattle.om_classification.specs.Progress.{State, IsUnderway, IsClosing, shown, not_shown, IsStep, IsEnd}
@@ -33,7 +33,7 @@ gap_not_done (Unmet member) e = cc
 gap_not_done (TooMany member) e = cc
 
 -- a run that ended with a line that says what is wrong
-pub wrong_ends : (r : Request) (all : List (List ℕ)) (text : List ℕ) (t : Status) → (t ≡ Done → ⊥)
+pub wrong_ends : (r : ListRequest) (all : List (List ℕ)) (text : List ℕ) (t : Status) → (t ≡ Done → ⊥)
     → IsTextUpToWrong r all t text → IsEnd r all text t
 wrong_ends r all text Done other w = absurd (other refl)
 wrong_ends r all text Refused other w = w
@@ -43,7 +43,7 @@ wrong_ends r all text ReadFault other w = w
 wrong_ends r all text WriteFault other w = w
 wrong_ends r all text NoMemory other w = w
 
-pub wrong_step : (r : Request) (all : List (List ℕ)) (text : List ℕ) (t : Status) (s : State) (left : List (List ℕ))
+pub wrong_step : (r : ListRequest) (all : List (List ℕ)) (text : List ℕ) (t : Status) (s : State) (left : List (List ℕ))
     → (t ≡ Done → ⊥) → IsTextUpToWrong r all t text → IsStep r all text t s left
 wrong_step r all text Done s left other w = absurd (other refl)
 wrong_step r all text Refused s left other w = w
@@ -56,7 +56,7 @@ wrong_step r all text NoMemory s left other w = w
 -- with the end of the stream
 pub closing_ends : (asked : Asked) (s : State) (new : ChainOfLists) (t : Status) (more : List ℕ)
     → IsClosing asked s.chain new t more → asked ≡ s.chain.asked → 1 ≤ length s.chain.current.maps
-    → (r : Request) (all : List (List ℕ)) (text : List ℕ) → IsUnderway r all text s [] → IsEnd r all (text ++ more) t
+    → (r : ListRequest) (all : List (List ℕ)) (text : List ℕ) → IsUnderway r all text s [] → IsEnd r all (text ++ more) t
 closing_ends asked s new t more (shown h) same some r all text u = all_shown r all text s new asked u h some same
 closing_ends asked s new t more (not_shown why w e) same some r all text u =
     wrong_ends r all _ (gap_status why) (gap_not_done why) (gap_stops r all text s [] why u at_end w)
@@ -64,7 +64,7 @@ closing_ends asked s new t more (not_shown why w e) same some r all text u =
 -- before a document on one element more, if the list isn't shown
 pub closing_stops : (asked : Asked) (s : State) (new : ChainOfLists) (t : Status) (more : List ℕ)
     → IsClosing asked s.chain new t more → (t ≡ Done → ⊥)
-    → (r : Request) (all : List (List ℕ)) (text : List ℕ) (left : List (List ℕ)) → IsUnderway r all text s left
+    → (r : ListRequest) (all : List (List ℕ)) (text : List ℕ) (left : List (List ℕ)) → IsUnderway r all text s left
     → IsEnded s.chain.current.elements left → IsTextUpToWrong r all t (text ++ more)
 closing_stops asked s new t more (shown h) other r all text left u over = absurd (other refl)
 closing_stops asked s new t more (not_shown why w e) other r all text left u over =
@@ -83,7 +83,7 @@ closing_other asked old new t more (not_shown why w e) other = e
 
 pub closing_goes : (asked : Asked) (s : State) (new : ChainOfLists) (t : Status) (more : List ℕ)
     → IsClosing asked s.chain new t more → t ≡ Done → asked ≡ s.chain.asked → 1 ≤ length s.chain.current.maps
-    → (r : Request) (all : List (List ℕ)) (text : List ℕ) (left : List (List ℕ)) → IsUnderway r all text s left
+    → (r : ListRequest) (all : List (List ℕ)) (text : List ℕ) (left : List (List ℕ)) → IsUnderway r all text s left
     → IsUnderway r all (text ++ more) (record { chain = new; documents = s.documents }) left
 closing_goes asked s new t more (shown h) is same some r all text left u =
     closes r all text s left new asked u h some same

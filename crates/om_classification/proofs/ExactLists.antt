@@ -9,10 +9,10 @@ use Rattle.om_chain.specs.Chains.{IsShown}
 use Rattle.om_chain.proofs.Shown.{one_of_each}
 use Rattle.om_least.specs.Least.{IsOfOneMember}
 use Rattle.om_levels.specs.Families.{IsOfFamily}
-use Rattle.om_classification.specs.declared.request.Request.{Request}
+use Rattle.om_classification.specs.declared.request.ListRequest.{ListRequest}
 use Rattle.om_classification.specs.Lists.{AreShown, no_more, next}
 
-pub one_member_each : (r : Request) (n : ℕ) (lists : List (List SignMap)) (i : ℕ) (m : SignMap) → r.asked ≡ Exact
+pub one_member_each : (r : ListRequest) (n : ℕ) (lists : List (List SignMap)) (i : ℕ) (m : SignMap) → r.asked ≡ Exact
     → AreShown r n lists → i < length lists → IsOfFamily r.family (i + n) m
     → IsOfOneMember (slice_index_or lists i []) m
 one_member_each r n lists i m asked (no_more j) few member = absurd (omega (arith, few))

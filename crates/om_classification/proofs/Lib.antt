@@ -2,6 +2,8 @@ pub mod Bytes
 pub mod Closings
 pub mod Documents
 pub mod ExactLists
+pub mod LeastSteps
+pub mod OfLists
 pub mod Reached
 pub mod Results
 pub mod Steps

@@ -16,7 +16,7 @@ use Rattle.om_reply.specs.declared.status.Status.TheVariants.{Refused}
 use Rattle.om_classification.specs.declared.fault.Fault.{Fault as DocumentFault}
 use Rattle.om_classification.specs.declared.line.Line.{Line}
 use Rattle.om_classification.specs.declared.line.Line.TheVariants.{Shown, Empty, Fault, Elements, Unfit, Gap as GapIn}
-use Rattle.om_classification.specs.declared.request.Request.{Request}
+use Rattle.om_classification.specs.declared.request.ListRequest.{ListRequest}
 use Rattle.om_classification.specs.Documents.{IsMember, IsAtFault}
 use Rattle.om_classification.specs.Texts.{line_text, line_status, gap_status}
 use Rattle.om_classification.specs.Lists.{AreDocuments, none, one_more, AreShown, no_more, next, members_of, first}
@@ -28,13 +28,13 @@ use Rattle.om_classification.specs.Progress.{State, IsUnderway, IsBetween}
 
 -- ---- lists that grow
 
-more_documents : (ps : List (List ℕ)) (ms : List SignMap) (p : List ℕ) (m : SignMap) → AreDocuments ps ms
+pub more_documents : (ps : List (List ℕ)) (ms : List SignMap) (p : List ℕ) (m : SignMap) → AreDocuments ps ms
     → IsMember p m → AreDocuments (ps ++ p ∷ []) (ms ++ m ∷ [])
 more_documents ps ms p m none d = one_more p [] m [] d none
 more_documents ps ms p m (one_more q qs k ks e es) d =
     one_more q (qs ++ p ∷ []) k (ks ++ m ∷ []) e (more_documents qs ks p m es d)
 
-more_shown : (r : Request) (n k : ℕ) (lists : List (List SignMap)) (maps : List SignMap) → AreShown r n lists
+more_shown : (r : ListRequest) (n k : ℕ) (lists : List (List SignMap)) (maps : List SignMap) → AreShown r n lists
     → k ≡ length lists + n → 1 ≤ length maps → IsShown r.asked r.family k maps → AreShown r n (lists ++ maps ∷ [])
 more_shown r n k lists maps (no_more j) e some s =
     next n maps [] some (subst (λ j. IsShown r.asked r.family j maps) (e ∙ omega arith) s) (no_more (n + 1))
@@ -45,7 +45,7 @@ last_is : (before maps : List SignMap) (lists : List (List SignMap)) → last_be
 last_is before maps [] = refl
 last_is before maps (l ∷ lists) = last_is l maps lists
 
-more_text : (r : Request) (n k : ℕ) (lists : List (List SignMap)) (maps : List SignMap) → k ≡ length lists + n
+more_text : (r : ListRequest) (n k : ℕ) (lists : List (List SignMap)) (maps : List SignMap) → k ≡ length lists + n
     → shown_text r n (lists ++ maps ∷ []) ≡ shown_text r n lists ++ line_text (Shown r.asked k (length maps))
 more_text r n k [] maps e =
     let same : n ≡ k = omega (arith, e) in
@@ -85,16 +85,16 @@ same_chain c asked family shown n maps a f s e m =
 -- ---- what is wrong
 
 -- what the state is, from how far the run has come
-counted : (r : Request) (all : List (List ℕ)) (text : List ℕ) (s : State) (left : List (List ℕ))
+counted : (r : ListRequest) (all : List (List ℕ)) (text : List ℕ) (s : State) (left : List (List ℕ))
     (u : IsUnderway r all text s left) → s.documents ≡ length u.front
 counted r all text s left u = ap (λ x. x.documents) u.state
 
-chained : (r : Request) (all : List (List ℕ)) (text : List ℕ) (s : State) (left : List (List ℕ))
+chained : (r : ListRequest) (all : List (List ℕ)) (text : List ℕ) (s : State) (left : List (List ℕ))
     (u : IsUnderway r all text s left) → s.chain ≡ chain_behind r u.lists u.maps
 chained r all text s left u = ap (λ x. x.chain) u.state
 
 -- the line says what is wrong, and is written
-pub wrong_stops : (r : Request) (all : List (List ℕ)) (text : List ℕ) (s : State) (left : List (List ℕ)) (line : Line)
+pub wrong_stops : (r : ListRequest) (all : List (List ℕ)) (text : List ℕ) (s : State) (left : List (List ℕ)) (line : Line)
     (t : Status) (more : List ℕ) (u : IsUnderway r all text s left)
     → IsWrong r u.lists u.maps (length u.front) left line → t ≡ line_status line → more ≡ line_text line
     → IsTextUpToWrong r all t (text ++ more)
@@ -111,7 +111,7 @@ wrong_stops r all text s left line t more u w is e = record {
   lines = ap (λ x. x ++ more) u.lines ∙ ap (λ x. shown_text r first u.lists ++ x) e;
 }
 
-pub fault_stops : (r : Request) (all : List (List ℕ)) (text : List ℕ) (s : State) (piece : List ℕ)
+pub fault_stops : (r : ListRequest) (all : List (List ℕ)) (text : List ℕ) (s : State) (piece : List ℕ)
     (left : List (List ℕ)) (k : ℕ) (why : DocumentFault) (more : List ℕ)
     → IsUnderway r all text s (piece ∷ left) → IsAtFault piece why → k ≡ s.documents + 1
     → more ≡ line_text (Fault k why) → IsTextUpToWrong r all Refused (text ++ more)
@@ -124,7 +124,7 @@ elsewhere_in : (c d : ChainOfLists) (n : ℕ) → c ≡ d → IsElsewhere c.curr
     → IsElsewhere d.current.elements d.current.maps n
 elsewhere_in c d n e w = subst (λ x. IsElsewhere x.current.elements x.current.maps n) e w
 
-pub elements_stops : (r : Request) (all : List (List ℕ)) (text : List ℕ) (s : State) (piece : List ℕ)
+pub elements_stops : (r : ListRequest) (all : List (List ℕ)) (text : List ℕ) (s : State) (piece : List ℕ)
     (left : List (List ℕ)) (k : ℕ) (m : SignMap) (more : List ℕ)
     → IsUnderway r all text s (piece ∷ left) → IsMember piece m
     → IsElsewhere s.chain.current.elements s.chain.current.maps m.elements → k ≡ s.documents + 1
@@ -136,7 +136,7 @@ elements_stops r all text s piece left k m more u d w count e =
     wrong_stops r all text s (piece ∷ left) (Elements (length u.front + 1)) Refused more u
     (elements piece left m d there) refl (e ∙ ap (λ x. line_text (Elements x)) place)
 
-pub unfit_stops : (r : Request) (all : List (List ℕ)) (text : List ℕ) (s : State) (piece : List ℕ)
+pub unfit_stops : (r : ListRequest) (all : List (List ℕ)) (text : List ℕ) (s : State) (piece : List ℕ)
     (left : List (List ℕ)) (k : ℕ) (m : SignMap) (why : Misfit) (more : List ℕ)
     → IsUnderway r all text s (piece ∷ left) → IsMember piece m → m.elements ≡ s.chain.current.elements
     → IsUnfit s.chain m why → k ≡ s.documents + 1 → more ≡ line_text (Unfit k why)
@@ -148,7 +148,7 @@ unfit_stops r all text s piece left k m why more u d size w count e =
     (unfit piece left m why d (size ∙ ap (λ x. x.current.elements) chain) (subst (λ x. IsUnfit x m why) chain w))
     refl (e ∙ ap (λ x. line_text (Unfit x why)) place)
 
-pub gap_stops : (r : Request) (all : List (List ℕ)) (text : List ℕ) (s : State) (left : List (List ℕ)) (why : Gap)
+pub gap_stops : (r : ListRequest) (all : List (List ℕ)) (text : List ℕ) (s : State) (left : List (List ℕ)) (why : Gap)
     → IsUnderway r all text s left → IsEnded s.chain.current.elements left → IsGap s.chain why
     → IsTextUpToWrong r all (gap_status why) (text ++ line_text (GapIn s.chain.current.elements why))
 gap_stops r all text s left why u over w =
@@ -158,7 +158,7 @@ gap_stops r all text s left why u over w =
     (gap left why (subst (λ x. IsEnded x.current.elements left) chain over) (subst (λ x. IsGap x why) chain w)) refl
     (ap (λ x. line_text (GapIn x.current.elements why)) chain)
 
-pub empty_stops : (r : Request) (all : List (List ℕ)) (text : List ℕ) (s : State) (more : List ℕ)
+pub empty_stops : (r : ListRequest) (all : List (List ℕ)) (text : List ℕ) (s : State) (more : List ℕ)
     → IsBetween r all text s [] → length s.chain.current.maps ≡ 0 → more ≡ line_text Empty
     → IsTextUpToWrong r all Refused (text ++ more)
 empty_stops r all text s more b none_left e =
@@ -171,7 +171,7 @@ empty_stops r all text s more b none_left e =
 
 -- ---- one document more
 
-more_read : (r : Request) (all : List (List ℕ)) (text : List ℕ) (s : State) (piece : List ℕ) (left : List (List ℕ))
+more_read : (r : ListRequest) (all : List (List ℕ)) (text : List ℕ) (s : State) (piece : List ℕ) (left : List (List ℕ))
     (k : ℕ) (m : SignMap) (c : ChainOfLists) → IsUnderway r all text s (piece ∷ left) → IsMember piece m
     → k ≡ s.documents + 1 → c ≡ added s.chain m → IsUnderway r all text (state_of c k) left
 more_read r all text s piece left k m c u d count e = record {
@@ -191,7 +191,7 @@ more_read r all text s piece left k m c u d count e = record {
   lines = u.lines;
 }
 
-pub goes_on : (r : Request) (all : List (List ℕ)) (text : List ℕ) (s : State) (piece : List ℕ) (left : List (List ℕ))
+pub goes_on : (r : ListRequest) (all : List (List ℕ)) (text : List ℕ) (s : State) (piece : List ℕ) (left : List (List ℕ))
     (k : ℕ) (m : SignMap) (c : ChainOfLists) → IsUnderway r all text s (piece ∷ left) → IsMember piece m
     → k ≡ s.documents + 1 → c ≡ added s.chain m → IsBetween r all text (state_of c k) left
 goes_on r all text s piece left k m c u d count e = record {
@@ -202,7 +202,7 @@ goes_on r all text s piece left k m c u d count e = record {
 
 -- ---- a list that ends
 
-closed_chain : (r : Request) (lists : List (List SignMap)) (maps : List SignMap) (c : ChainOfLists)
+closed_chain : (r : ListRequest) (lists : List (List SignMap)) (maps : List SignMap) (c : ChainOfLists)
     → IsClosed (chain_behind r lists maps) c → c ≡ chain_behind r (lists ++ maps ∷ []) []
 closed_chain r lists maps c h =
     let count : length (lists ++ maps ∷ []) ≡ length lists + 1 = length-append lists (maps ∷ []) in
@@ -222,7 +222,7 @@ more_members lists maps =
     append-nil (members_of (lists ++ maps ∷ [])) ∙ flat_map-append (λ l. l) lists (maps ∷ [])
     ∙ ap (λ x. members_of lists ++ x) (append-nil maps)
 
-abbrev shown_read : (r : Request) (front : List (List ℕ)) (lists : List (List SignMap)) (maps : List SignMap)
+abbrev shown_read : (r : ListRequest) (front : List (List ℕ)) (lists : List (List SignMap)) (maps : List SignMap)
     (c : ChainOfLists) → AreRead r front lists maps → IsClosed (chain_behind r lists maps) c → 1 ≤ length maps
     → AreRead r front (lists ++ maps ∷ []) []
 shown_read r front lists maps c read h some = record {
@@ -231,7 +231,7 @@ shown_read r front lists maps c read h some = record {
 }
 
 -- the line of the list, behind those of the lists before
-shown_line : (r : Request) (all : List (List ℕ)) (text : List ℕ) (s : State) (left : List (List ℕ)) (asked : Asked)
+shown_line : (r : ListRequest) (all : List (List ℕ)) (text : List ℕ) (s : State) (left : List (List ℕ)) (asked : Asked)
     (u : IsUnderway r all text s left) → asked ≡ s.chain.asked
     → text ++ line_text (Shown asked s.chain.current.elements (length s.chain.current.maps))
     ≡ shown_text r first (u.lists ++ u.maps ∷ [])
@@ -245,7 +245,7 @@ shown_line r all text s left asked u same =
     ∙ sym (more_text r first (length u.lists + first) u.lists u.maps refl)
 
 -- the list is shown, and its line is written
-pub closes : (r : Request) (all : List (List ℕ)) (text : List ℕ) (s : State) (left : List (List ℕ))
+pub closes : (r : ListRequest) (all : List (List ℕ)) (text : List ℕ) (s : State) (left : List (List ℕ))
     (c : ChainOfLists) (asked : Asked) → IsUnderway r all text s left → IsClosed s.chain c
     → 1 ≤ length s.chain.current.maps → asked ≡ s.chain.asked
     → IsUnderway r all (text ++ line_text (Shown asked s.chain.current.elements (length s.chain.current.maps)))
@@ -266,7 +266,7 @@ closes r all text s left c asked u h some same =
     }
 
 -- the last list is shown, and its line is written
-pub all_shown : (r : Request) (all : List (List ℕ)) (text : List ℕ) (s : State) (c : ChainOfLists) (asked : Asked)
+pub all_shown : (r : ListRequest) (all : List (List ℕ)) (text : List ℕ) (s : State) (c : ChainOfLists) (asked : Asked)
     → IsUnderway r all text s [] → IsClosed s.chain c → 1 ≤ length s.chain.current.maps → asked ≡ s.chain.asked
     → IsTextOfAll r all (text ++ line_text (Shown asked s.chain.current.elements (length s.chain.current.maps)))
 all_shown r all text s c asked u h some same =

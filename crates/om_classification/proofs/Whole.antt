@@ -1,7 +1,7 @@
 -- What holds of the first bytes of pieces, as the cutter keeps them, holds of the pieces.
 --
 -- Main results: run_stopped
-use Rattle.std.specs.Prelude.{ℕ, ◌≡◌, ◌≤◌, List, [], ◌∷◌, ◌++◌, map, take, length, Option}
+use Rattle.std.specs.Prelude.{ℕ, ◌≡◌, ◌+◌, ◌≤◌, List, [], ◌∷◌, ◌++◌, map, take, length, Option}
 use Rattle.std.proofs.Common.{refl, sym, ap, ◌∙◌, subst, arith, inl, inr}
 use Rattle.std.proofs.lemmas.List.{length-take, take_all, length-map}
 use Rattle.std.proofs.lemmas.Bool.{cases_lt}
@@ -17,13 +17,17 @@ use Rattle.om_reply.specs.declared.status.Status.TheVariants.{Done, Refused, Usa
 use Rattle.om_reply.specs.declared.status.Status.TheVariants.{NoMemory}
 use Rattle.om_classification.specs.declared.fault.Fault.{Fault as DocumentFault}
 use Rattle.om_classification.specs.declared.line.Line.{Line}
+use Rattle.om_classification.specs.declared.line.Line.TheVariants.{Fault}
+use Rattle.om_classification.specs.declared.request.ListRequest.{ListRequest}
 use Rattle.om_classification.specs.declared.request.Request.{Request}
+use Rattle.om_classification.specs.declared.request.Request.TheVariants.{Lists, Least}
+use Rattle.om_classification.specs.Answers.{IsAnswer, IsAnswerToFirst, IsAnswerUpToWrong, IsRight, IsStopped}
 use Rattle.om_classification.specs.Documents.{IsDocumentOf, IsMember, IsAtFault, long, line, kind, axioms, rank}
 use Rattle.om_classification.specs.Lists.{AreDocuments, none, one_more, AreRead, IsEnded, at_end, before, IsWrong}
 use Rattle.om_classification.specs.Lists.{empty}
 use Rattle.om_classification.specs.Lists.{fault, elements, unfit, gap, IsTextOfAll, IsTextOfFirst, IsTextUpToWrong}
-use Rattle.om_classification.specs.Lists.{IsRight}
-use Rattle.om_classification.specs.Progress.{IsStopped}
+use Rattle.om_classification.specs.LeastMaps.{IsTextOfLeast, IsTextOfFirstLeast, IsTextUpToFault}
+use Rattle.om_classification.specs.Texts.{line_text}
 use Rattle.om_classification.specs.Runs.{ends, HasRun}
 
 -- ---- one piece
@@ -78,7 +82,7 @@ documents_whole fronts (q ∷ qs) maps e (one_more p ps m ms d ds) =
     one_more q qs m ms (member_whole q m (subst (λ x. IsMember x m) (heads _ _ _ _ e) d))
     (documents_whole ps qs ms (tails _ _ _ _ e) ds)
 
-read_whole : (r : Request) (fronts pieces : List (List ℕ)) (lists : List (List SignMap)) (maps : List SignMap)
+read_whole : (r : ListRequest) (fronts pieces : List (List ℕ)) (lists : List (List SignMap)) (maps : List SignMap)
     → fronts ≡ map (take most) pieces → AreRead r fronts lists maps → AreRead r pieces lists maps
 read_whole r fronts pieces lists maps e h =
     record { documents = documents_whole fronts pieces _ e h.documents; shown = h.shown }
@@ -91,7 +95,7 @@ ended_whole n fronts [] e (before p ps m d size) = absurd (full_empty _ _ e)
 ended_whole n fronts (q ∷ qs) e (before p ps m d size) =
     before q qs m (member_whole q m (subst (λ x. IsMember x m) (heads _ _ _ _ e) d)) size
 
-wrong_whole : (r : Request) (lists : List (List SignMap)) (maps : List SignMap) (k : ℕ) (fronts pieces : List (List ℕ))
+wrong_whole : (r : ListRequest) (lists : List (List SignMap)) (maps : List SignMap) (k : ℕ) (fronts pieces : List (List ℕ))
     (l : Line) → fronts ≡ map (take most) pieces → IsWrong r lists maps k fronts l → IsWrong r lists maps k pieces l
 wrong_whole r lists maps k fronts [] l e (empty first) = empty first
 wrong_whole r lists maps k fronts (q ∷ qs) l e (empty first) = absurd (empty_full _ _ e)
@@ -129,14 +133,14 @@ parted (p ∷ ps) (q ∷ qs) left e =
 
 -- ---- texts
 
-all_whole : (r : Request) (pieces : List (List ℕ)) (text : List ℕ) → IsTextOfAll r (map (take most) pieces) text
+lists_whole : (r : ListRequest) (pieces : List (List ℕ)) (text : List ℕ) → IsTextOfAll r (map (take most) pieces) text
     → IsTextOfAll r pieces text
-all_whole r pieces text h =
+lists_whole r pieces text h =
     record { lists = h.lists; some = h.some; read = read_whole r _ pieces h.lists [] refl h.read; lines = h.lines }
 
-first_whole : (r : Request) (pieces : List (List ℕ)) (text : List ℕ) → IsTextOfFirst r (map (take most) pieces) text
+first_lists_whole : (r : ListRequest) (pieces : List (List ℕ)) (text : List ℕ) → IsTextOfFirst r (map (take most) pieces) text
     → IsTextOfFirst r pieces text
-first_whole r pieces text h =
+first_lists_whole r pieces text h =
     let p = parted pieces h.front h.left h.parts in
     record {
       lists = h.lists;
@@ -148,9 +152,9 @@ first_whole r pieces text h =
       lines = h.lines;
     }
 
-refused_whole : (r : Request) (pieces : List (List ℕ)) (t : Status) (text : List ℕ)
+wrong_lists_whole : (r : ListRequest) (pieces : List (List ℕ)) (t : Status) (text : List ℕ)
     → IsTextUpToWrong r (map (take most) pieces) t text → IsTextUpToWrong r pieces t text
-refused_whole r pieces t text h =
+wrong_lists_whole r pieces t text h =
     let p = parted pieces h.front h.left h.parts in
     let count : length h.front ≡ length p.first = ap length p.front ∙ length-map p.first (take most) in
     record {
@@ -166,6 +170,71 @@ refused_whole r pieces t text h =
       status = h.status;
       lines = h.lines;
     }
+
+-- ---- least maps
+
+least_whole : (fronts pieces : List (List ℕ)) (text : List ℕ) → fronts ≡ map (take most) pieces
+    → IsTextOfLeast fronts text → IsTextOfLeast pieces text
+least_whole fronts pieces text e h =
+    record {
+      maps = h.maps;
+      least = h.least;
+      documents = documents_whole fronts pieces h.maps e h.documents;
+      images = h.images;
+      written = h.written;
+    }
+
+first_least_whole : (pieces : List (List ℕ)) (text : List ℕ) → IsTextOfFirstLeast (map (take most) pieces) text
+    → IsTextOfFirstLeast pieces text
+first_least_whole pieces text h =
+    let p = parted pieces h.front h.left h.parts in
+    record { front = p.first; left = p.last; parts = p.whole; first = least_whole h.front p.first text p.front h.first }
+
+-- what is at fault with the first bytes of a piece is so with the piece
+fault_behind : (front pieces last left : List (List ℕ)) (piece head text : List ℕ) (why : DocumentFault) (t : Status)
+    → pieces ≡ front ++ last → piece ∷ left ≡ map (take most) last → IsTextOfLeast front head
+    → IsAtFault piece why → t ≡ Refused → text ≡ head ++ line_text (Fault (length front + 1) why)
+    → IsTextUpToFault pieces t text
+fault_behind front pieces [] left piece head text why t parts e first bad status written = absurd (full_empty _ _ e)
+fault_behind front pieces (q ∷ qs) left piece head text why t parts e first bad status written =
+    record {
+      front = front;
+      piece = q;
+      left = qs;
+      why = why;
+      before = head;
+      parts = parts;
+      first = first;
+      fault = fault_whole q why (subst (λ x. IsAtFault x why) (heads _ _ _ _ e) bad);
+      status = status;
+      lines = written;
+    }
+
+fault_least_whole : (pieces : List (List ℕ)) (t : Status) (text : List ℕ)
+    → IsTextUpToFault (map (take most) pieces) t text → IsTextUpToFault pieces t text
+fault_least_whole pieces t text h =
+    let p = parted pieces h.front (h.piece ∷ h.left) h.parts in
+    let count : length h.front ≡ length p.first = ap length p.front ∙ length-map p.first (take most) in
+    fault_behind p.first pieces p.last h.left h.piece h.before text h.why t p.whole p.behind
+    (least_whole h.front p.first h.before p.front h.first) h.fault h.status
+    (h.lines ∙ ap (λ k. h.before ++ line_text (Fault (k + 1) h.why)) count)
+
+-- ---- answers
+
+all_whole : (r : Request) (pieces : List (List ℕ)) (text : List ℕ) → IsAnswer r (map (take most) pieces) text
+    → IsAnswer r pieces text
+all_whole (Lists r) pieces text h = lists_whole r pieces text h
+all_whole Least pieces text h = least_whole _ pieces text refl h
+
+first_whole : (r : Request) (pieces : List (List ℕ)) (text : List ℕ)
+    → IsAnswerToFirst r (map (take most) pieces) text → IsAnswerToFirst r pieces text
+first_whole (Lists r) pieces text h = first_lists_whole r pieces text h
+first_whole Least pieces text h = first_least_whole pieces text h
+
+refused_whole : (r : Request) (pieces : List (List ℕ)) (t : Status) (text : List ℕ)
+    → IsAnswerUpToWrong r (map (take most) pieces) t text → IsAnswerUpToWrong r pieces t text
+refused_whole (Lists r) pieces t text h = wrong_lists_whole r pieces t text h
+refused_whole Least pieces t text h = fault_least_whole pieces t text h
 
 right_whole : (r : Request) (pieces : List (List ℕ)) (text : List ℕ) → IsRight r (map (take most) pieces) text
     → IsRight r pieces text

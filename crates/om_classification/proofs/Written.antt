@@ -11,10 +11,16 @@ use Rattle.om_reply.specs.declared.status.Status.TheVariants.{Done, Refused, Usa
 use Rattle.om_reply.specs.declared.status.Status.TheVariants.{NoMemory}
 use Rattle.om_reply.specs.Statuses.{IsReplied}
 use Rattle.om_reply.specs.Written.{IsFront}
+use Rattle.om_classification.specs.declared.progress.Progress.{Progress}
+use Rattle.om_classification.specs.declared.progress.Progress.TheVariants.{Lists as OfLists, Least as OfLeast}
+use Rattle.om_classification.specs.declared.request.ListRequest.{ListRequest}
 use Rattle.om_classification.specs.declared.request.Request.{Request}
-use Rattle.om_classification.specs.Lists.{IsTextOfFirst, IsRight, IsTextOfAll, no_more, none}
-use Rattle.om_classification.specs.Progress.{State, IsUnderway, IsBetween, IsStep, IsEnd, IsWritten, IsGoing}
-use Rattle.om_classification.specs.Progress.{IsStopped, IsOutcome, started}
+use Rattle.om_classification.specs.declared.request.Request.TheVariants.{Lists, Least}
+use Rattle.om_classification.specs.Answers.{IsAnswer, IsAnswerToFirst, IsRight, IsReached, IsTaken, IsOver, IsWritten}
+use Rattle.om_classification.specs.Answers.{IsGoing, IsStopped, IsOutcome, started}
+use Rattle.om_classification.specs.LeastMaps.{no_map}
+use Rattle.om_classification.specs.Lists.{IsTextOfFirst, no_more, none}
+use Rattle.om_classification.specs.Progress.{State, IsUnderway}
 
 appended_none : (o : Option (List ℕ)) → Appends o o []
 appended_none None = tt
@@ -22,7 +28,7 @@ appended_none (Some o) = sym (append-nil o)
 
 -- ---- statuses
 
-pub still : (r : Request) (all : List (List ℕ)) (t : Status) (s new : State) (left other : List (List ℕ))
+pub still : (r : Request) (all : List (List ℕ)) (t : Status) (s new : Progress) (left other : List (List ℕ))
     (o p : Option (List ℕ)) → (t ≡ Done → ⊥) → IsOutcome r all t s left o p → IsOutcome r all t new other o p
 still r all Done s new left other o p n h = absurd (n refl)
 still r all Refused s new left other o p n h = h
@@ -32,7 +38,7 @@ still r all ReadFault s new left other o p n h = h
 still r all WriteFault s new left other o p n h = h
 still r all NoMemory s new left other o p n h = h
 
-pub stopped : (r : Request) (all : List (List ℕ)) (t : Status) (s : State) (left : List (List ℕ))
+pub stopped : (r : Request) (all : List (List ℕ)) (t : Status) (s : Progress) (left : List (List ℕ))
     (o p : Option (List ℕ)) → (t ≡ Done → ⊥) → IsOutcome r all t s left o p → IsStopped r all t o p
 stopped r all Done s left o p n h = absurd (n refl)
 stopped r all Refused s left o p n h = h
@@ -44,9 +50,9 @@ stopped r all NoMemory s left o p n h = h
 
 -- ---- texts
 
-first_part : (r : Request) (all : List (List ℕ)) (text : List ℕ) (s : State) (left : List (List ℕ))
+pub first_lists : (r : ListRequest) (all : List (List ℕ)) (text : List ℕ) (s : State) (left : List (List ℕ))
     → IsUnderway r all text s left → IsTextOfFirst r all text
-first_part r all text s left u =
+first_lists r all text s left u =
     record {
       lists = u.lists;
       maps = u.maps;
@@ -57,12 +63,20 @@ first_part r all text s left u =
       lines = u.lines;
     }
 
-pub going_first : (r : Request) (all : List (List ℕ)) (s : State) (left : List (List ℕ)) (o p : Option (List ℕ))
-    → IsGoing r all s left o p → IsWritten (IsTextOfFirst r all) o p
-going_first r all s left o p (text, (b, w)) = (text, (first_part r all text s left b.underway, w))
+first_part : (r : Request) (all : List (List ℕ)) (text : List ℕ) (s : Progress) (left : List (List ℕ))
+    → IsReached r all text s left → IsAnswerToFirst r all text
+first_part (Lists r) all text (OfLists s) left b = first_lists r all text s left b.underway
+first_part (Lists r) all text (OfLeast s) left b = absurd b
+first_part Least all text (OfLists s) left b = absurd b
+first_part Least all text (OfLeast s) left b =
+    record { front = b.front; left = left; parts = b.parts; first = b.first }
 
-all_first : (r : Request) (all : List (List ℕ)) (text : List ℕ) → IsTextOfAll r all text → IsTextOfFirst r all text
-all_first r all text a =
+pub going_first : (r : Request) (all : List (List ℕ)) (s : Progress) (left : List (List ℕ)) (o p : Option (List ℕ))
+    → IsGoing r all s left o p → IsWritten (IsAnswerToFirst r all) o p
+going_first r all s left o p (text, (b, w)) = (text, (first_part r all text s left b, w))
+
+all_first : (r : Request) (all : List (List ℕ)) (text : List ℕ) → IsAnswer r all text → IsAnswerToFirst r all text
+all_first (Lists r) all text a =
     record {
       lists = a.lists;
       maps = [];
@@ -72,6 +86,7 @@ all_first r all text a =
       read = a.read;
       lines = a.lines;
     }
+all_first Least all text a = record { front = all; left = []; parts = sym (append-nil all); first = a }
 
 take_behind : (text more : List ℕ) (k j : ℕ) → j ≡ length text + k → take j (text ++ more) ≡ text ++ take k more
 take_behind [] more k j e = ap (λ i. take i more) (let f : j ≡ k = omega (arith, e) in f)
@@ -93,9 +108,9 @@ front_behind o p q text more w (k, (short, v)) = (
 
 -- ---- one piece
 
-step_right : (r : Request) (all : List (List ℕ)) (text : List ℕ) (t : Status) (s : State) (left : List (List ℕ))
-    → IsReplied t → IsStep r all text t s left → IsRight r all text
-step_right r all text Done s left h b = inl (first_part r all text s left b.underway)
+step_right : (r : Request) (all : List (List ℕ)) (text : List ℕ) (t : Status) (s : Progress) (left : List (List ℕ))
+    → IsReplied t → IsTaken r all text t s left → IsRight r all text
+step_right r all text Done s left h b = inl (first_part r all text s left b)
 step_right r all text Refused s left h w = inr (Refused, w)
 step_right r all text Usage s left h w = absurd h
 step_right r all text Limit s left h w = inr (Limit, w)
@@ -103,8 +118,8 @@ step_right r all text ReadFault s left h w = absurd h
 step_right r all text WriteFault s left h w = absurd h
 step_right r all text NoMemory s left h w = absurd h
 
-step_written : (r : Request) (all : List (List ℕ)) (text : List ℕ) (t : Status) (s : State) (left : List (List ℕ))
-    (o p : Option (List ℕ)) → IsReplied t → IsStep r all text t s left → Appends o p text
+step_written : (r : Request) (all : List (List ℕ)) (text : List ℕ) (t : Status) (s : Progress) (left : List (List ℕ))
+    (o p : Option (List ℕ)) → IsReplied t → IsTaken r all text t s left → Appends o p text
     → IsOutcome r all t s left o p
 step_written r all text Done s left o p h b w = (text, (b, w))
 step_written r all text Refused s left o p h b w = (text, (b, w))
@@ -119,9 +134,9 @@ abbrev pub IsOneWritten : Status → Status → List ℕ → Option (List ℕ) �
 IsOneWritten t result more o p =
     ((result ≡ t) × Appends o p more) ⊎ ((result ≡ WriteFault) × IsFront o p more)
 
-pub piece_outcome : (r : Request) (all : List (List ℕ)) (s new : State) (piece : List ℕ) (left : List (List ℕ))
+pub piece_outcome : (r : Request) (all : List (List ℕ)) (s new : Progress) (piece : List ℕ) (left : List (List ℕ))
     (t result : Status) (more : List ℕ) (o p q : Option (List ℕ)) → IsReplied t
-    → ((text : List ℕ) → IsBetween r all text s (piece ∷ left) → IsStep r all (text ++ more) t new left)
+    → ((text : List ℕ) → IsReached r all text s (piece ∷ left) → IsTaken r all (text ++ more) t new left)
     → IsOneWritten t result more p q → IsGoing r all s (piece ∷ left) o p → IsOutcome r all result new left o q
 piece_outcome r all s new piece left t result more o p q h f (inl (e, v)) (text, (b, w)) =
     subst (λ x. IsOutcome r all x new left o q) (sym e)
@@ -132,7 +147,7 @@ piece_outcome r all s new piece left t result more o p q h f (inr (e, v)) (text,
 
 -- ---- the end of the stream
 
-end_right : (r : Request) (all : List (List ℕ)) (text : List ℕ) (t : Status) → IsReplied t → IsEnd r all text t
+end_right : (r : Request) (all : List (List ℕ)) (text : List ℕ) (t : Status) → IsReplied t → IsOver r all text t
     → IsRight r all text
 end_right r all text Done h a = inl (all_first r all text a)
 end_right r all text Refused h w = inr (Refused, w)
@@ -143,7 +158,7 @@ end_right r all text WriteFault h w = absurd h
 end_right r all text NoMemory h w = absurd h
 
 end_written : (r : Request) (all : List (List ℕ)) (text : List ℕ) (t : Status) (o p : Option (List ℕ)) → IsReplied t
-    → IsEnd r all text t → Appends o p text → IsStopped r all t o p
+    → IsOver r all text t → Appends o p text → IsStopped r all t o p
 end_written r all text Done o p h b w = (text, (b, w))
 end_written r all text Refused o p h b w = (text, (b, w))
 end_written r all text Usage o p h b w = absurd h
@@ -152,9 +167,9 @@ end_written r all text ReadFault o p h b w = absurd h
 end_written r all text WriteFault o p h b w = absurd h
 end_written r all text NoMemory o p h b w = absurd h
 
-pub end_stopped : (r : Request) (all : List (List ℕ)) (s : State) (t result : Status) (more : List ℕ)
+pub end_stopped : (r : Request) (all : List (List ℕ)) (s : Progress) (t result : Status) (more : List ℕ)
     (o p q : Option (List ℕ)) → IsReplied t
-    → ((text : List ℕ) → IsBetween r all text s [] → IsEnd r all (text ++ more) t)
+    → ((text : List ℕ) → IsReached r all text s [] → IsOver r all (text ++ more) t)
     → IsOneWritten t result more p q → IsGoing r all s [] o p → IsStopped r all result o q
 end_stopped r all s t result more o p q h f (inl (e, v)) (text, (b, w)) =
     subst (λ x. IsStopped r all x o q) (sym e)
@@ -176,11 +191,9 @@ usage_not_done s (inr is) done = let f : WriteFault ≡ Done = sym is ∙ done i
 
 -- ---- the beginning
 
-pub begins : (r : Request) (all : List (List ℕ)) (s : State) (o : Option (List ℕ)) → s ≡ started r
-    → IsGoing r all s all o o
-begins r all s o e = subst (λ x. IsGoing r all x all o o) (sym e) (
-  [],
-  (
+-- no document was read
+pub none_reached : (r : Request) (all : List (List ℕ)) → IsReached r all [] (started r) all
+none_reached (Lists r) all =
     record {
       underway =
           record {
@@ -193,7 +206,15 @@ begins r all s o e = subst (λ x. IsGoing r all x all o o) (sym e) (
             lines = refl;
           };
       some = λ few. absurd (omega (arith, few));
-    },
-    appended_none o,
-  ),
-)
+    }
+none_reached Least all =
+    record {
+      front = [];
+      parts = refl;
+      first = record { maps = []; least = []; documents = none; images = no_map; written = refl };
+      count = refl;
+    }
+
+pub begins : (r : Request) (all : List (List ℕ)) (s : Progress) (o : Option (List ℕ)) → s ≡ started r
+    → IsGoing r all s all o o
+begins r all s o e = subst (λ x. IsGoing r all x all o o) (sym e) ([], (none_reached r all, appended_none o))

@@ -4,3 +4,5 @@ pub mod Texts
 pub mod Lists
 pub mod Progress
 pub mod Runs
+pub mod LeastMaps
+pub mod Answers

@@ -13,7 +13,7 @@ use Rattle.om_reply.specs.declared.status.Status.{Status}
 use Rattle.om_classification.specs.declared.fault.Fault.{Fault as DocumentFault}
 use Rattle.om_classification.specs.declared.line.Line.{Line}
 use Rattle.om_classification.specs.declared.line.Line.TheVariants.{Shown, Empty, Fault, Elements, Unfit, Gap as GapIn}
-use Rattle.om_classification.specs.declared.request.Request.{Request}
+use Rattle.om_classification.specs.declared.request.ListRequest.{ListRequest}
 use Rattle.om_classification.specs.Documents.{IsMember, IsAtFault}
 use Rattle.om_classification.specs.Texts.{line_text, line_status}
 
@@ -26,7 +26,7 @@ pub data AreDocuments : List (List ℕ) → List SignMap → Type 0 where
       → AreDocuments pieces maps → AreDocuments (piece ∷ pieces) (m ∷ maps)
 
 -- lists on n, n + 1, and so on elements, each with some member, and each shown: complete or exact, as is asked
-pub data AreShown (r : Request) : ℕ → List (List SignMap) → Type 0 where
+pub data AreShown (r : ListRequest) : ℕ → List (List SignMap) → Type 0 where
   no_more : (n : ℕ) → AreShown r n []
   next : (n : ℕ) (maps : List SignMap) (lists : List (List SignMap)) → 1 ≤ length maps
       → IsShown r.asked r.family n maps → AreShown r (n + 1) lists → AreShown r n (maps ∷ lists)
@@ -41,7 +41,7 @@ first = 4
 
 -- The pieces are documents of the members of lists on 4, 5, and so on elements, each of them shown, and then of the
 -- maps of the list that is being read.
-pub record AreRead (r : Request) (pieces : List (List ℕ)) (lists : List (List SignMap)) (maps : List SignMap)
+pub record AreRead (r : ListRequest) (pieces : List (List ℕ)) (lists : List (List SignMap)) (maps : List SignMap)
     : Type 0 where
   pub documents : AreDocuments pieces (members_of lists ++ maps)
   pub shown : AreShown r first lists
@@ -52,7 +52,7 @@ last_behind before [] = before
 last_behind before (maps ∷ lists) = last_behind maps lists
 
 -- the chain behind these lists with these maps in the list that is being read; the list on three elements is built in
-abbrev pub chain_behind : Request → List (List SignMap) → List SignMap → ChainOfLists
+abbrev pub chain_behind : ListRequest → List (List SignMap) → List SignMap → ChainOfLists
 chain_behind r lists maps = record {
   asked = r.asked;
   family = r.family;
@@ -76,7 +76,7 @@ pub data IsEnded (n : ℕ) : List (List ℕ) → Type 0 where
 
 -- The lists are shown, the maps are those that are read of the next one, k documents are read, and these pieces are
 -- left. This line says what is wrong.
-pub data IsWrong (r : Request) (lists : List (List SignMap)) (maps : List SignMap) (k : ℕ) : List (List ℕ) → Line
+pub data IsWrong (r : ListRequest) (lists : List (List SignMap)) (maps : List SignMap) (k : ℕ) : List (List ℕ) → Line
     → Type 0 where
   -- there is no document
   empty : k ≡ 0 → IsWrong r lists maps k [] Empty
@@ -98,13 +98,13 @@ pub data IsWrong (r : Request) (lists : List (List SignMap)) (maps : List SignMa
 -- ---- texts
 
 -- the lines of lists on n, n + 1, and so on elements
-abbrev pub shown_text : Request → ℕ → List (List SignMap) → List ℕ
+abbrev pub shown_text : ListRequest → ℕ → List (List SignMap) → List ℕ
 shown_text r n [] = []
 shown_text r n (maps ∷ lists) = line_text (Shown r.asked n (length maps)) ++ shown_text r (n + 1) lists
 
 -- the pieces are documents of the members of lists, of one at least, each of them shown, and this is the text of the
 -- lists' lines
-pub record IsTextOfAll (r : Request) (pieces : List (List ℕ)) (text : List ℕ) : Type 0 where
+pub record IsTextOfAll (r : ListRequest) (pieces : List (List ℕ)) (text : List ℕ) : Type 0 where
   pub lists : List (List SignMap)
   pub some : 1 ≤ length lists
   pub read : AreRead r pieces lists []
@@ -112,7 +112,7 @@ pub record IsTextOfAll (r : Request) (pieces : List (List ℕ)) (text : List ℕ
 
 -- the first pieces are documents of the members of lists, each of them shown, and of further maps; this is the text of
 -- the lists' lines
-pub record IsTextOfFirst (r : Request) (pieces : List (List ℕ)) (text : List ℕ) : Type 0 where
+pub record IsTextOfFirst (r : ListRequest) (pieces : List (List ℕ)) (text : List ℕ) : Type 0 where
   pub lists : List (List SignMap)
   pub maps : List SignMap
   pub front : List (List ℕ)
@@ -122,7 +122,7 @@ pub record IsTextOfFirst (r : Request) (pieces : List (List ℕ)) (text : List �
   pub lines : text ≡ shown_text r first lists
 
 -- this is the text of the lines of such lists and of a line that says what is wrong then, with its status
-pub record IsTextUpToWrong (r : Request) (pieces : List (List ℕ)) (s : Status) (text : List ℕ) : Type 0 where
+pub record IsTextUpToWrong (r : ListRequest) (pieces : List (List ℕ)) (s : Status) (text : List ℕ) : Type 0 where
   pub lists : List (List SignMap)
   pub maps : List SignMap
   pub front : List (List ℕ)
@@ -133,7 +133,3 @@ pub record IsTextUpToWrong (r : Request) (pieces : List (List ℕ)) (s : Status)
   pub wrong : IsWrong r lists maps (length front) left line
   pub status : s ≡ line_status line
   pub lines : text ≡ shown_text r first lists ++ line_text line
-
--- such a text, with or without a line that says what is wrong
-abbrev pub IsRight : Request → List (List ℕ) → List ℕ → Type 0
-IsRight r pieces text = IsTextOfFirst r pieces text ⊎ ((s : Status) × IsTextUpToWrong r pieces s text)

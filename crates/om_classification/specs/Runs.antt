@@ -9,7 +9,7 @@ use Rattle.om_reply.specs.declared.status.Status.{Status}
 use Rattle.om_reply.specs.Written.{IsFront}
 use Rattle.om_classification.specs.declared.request.Request.{Request}
 use Rattle.om_classification.specs.Requests.{IsRequest}
-use Rattle.om_classification.specs.Progress.{IsStopped}
+use Rattle.om_classification.specs.Answers.{IsStopped}
 
 -- how many `end` lines close a piece
 abbrev pub ends : ℕ

@@ -6,7 +6,7 @@ ghost use Rattle.om_chirotope.specs.Map.{SignMap};
 ghost use Rattle.om_chain.specs.declared.asked.Asked.TheVariants.{Exact};
 ghost use Rattle.om_least.specs.Least.{IsOfOneMember};
 ghost use Rattle.om_levels.specs.Families.{IsOfFamily};
-ghost use Rattle.om_classification.specs.declared.request.Request.{Request as Asking};
+ghost use Rattle.om_classification.specs.declared.request.ListRequest.{ListRequest as Asking};
 ghost use Rattle.om_classification.specs.Lists.{IsTextOfAll, first};
 
 /// If exact lists are asked for, and the pieces are the members of lists that are shown, then each chirotope of rank 3

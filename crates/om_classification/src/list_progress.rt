@@ -1,16 +1,17 @@
-//! The state between two pieces, and what a piece adds to it.
+//! The state between two pieces while lists are read, and what a piece adds to it.
 
 ghost use Rattle.std.specs.Prelude.{ℕ, ◌≡◌, ◌≢◌, ◌<◌, ◌≤◌, ◌+◌, ◌∷◌, [], ◌++◌, List, IfOk, OnErr, length, true, false};
 ghost use Rattle.om_reply.specs.Statuses.{IsReplied};
-ghost use Rattle.om_classification.specs.declared.request.Request.{Request as Asking};
+ghost use Rattle.om_classification.specs.declared.request.ListRequest.{ListRequest as Asking};
 ghost use Rattle.om_classification.specs.Documents.{IsMember};
 ghost use Rattle.om_classification.specs.Lists.{IsElsewhere};
-ghost use Rattle.om_classification.specs.Progress.{IsBetween, IsClosing, IsEnd, IsStep, IsUnderway, started};
+ghost use Rattle.om_classification.specs.Progress.{IsBetween, IsClosing, IsEnd, IsStep, IsUnderway, started_lists};
 ghost use Rattle.om_classification.specs.Texts.{gap_status, line_text};
 
 use super::document::{Unread, read_member};
 use super::line::Line;
-use super::request::Request;
+use super::request::ListRequest;
+use super::step::{Step, ended};
 use super::texts::{push_line, text_of};
 use om_chain::{Asked, Chain, Gap};
 use om_chirotope::Chirotope;
@@ -22,13 +23,13 @@ use std::thread::Threads;
 
 /// How far a run has come: the chain of lists, and the number of documents.
 #[derive(Drop)]
-pub struct Progress {
+pub struct ListProgress {
     asked: Asked,
     chain: Chain,
     documents: u64,
 }
 
-impl Model for Progress {
+impl Model for ListProgress {
     ghost use Rattle.std.specs.Prelude.{◌≡◌, ◌<◌};
     ghost use Rattle.om_signs.specs.declared.limits.TheConstants.{MAX_ELEMENTS};
     ghost use Rattle.om_classification.specs.Progress.{State};
@@ -40,22 +41,15 @@ impl Model for Progress {
     ghost invariant = { λ p. (p.asked ≡ p.chain.asked) × (p.chain.current.elements < MAX_ELEMENTS) };
 }
 
-/// What a piece adds: the text to be written, and the status: [`Status::Done`] if the run goes on.
-#[derive(Drop)]
-pub struct Step {
-    pub text: Vec<u8>,
-    pub status: Status,
-}
-
-impl Progress {
+impl ListProgress {
     /// The state before the first piece.
     ///
     /// [`NoMemory`] comes only if memory runs out.
-    pub fn new(alloc: Global, request: Request) -> Result<Progress, NoMemory>
-        ensures { IfOk result (λ p. p ≡ started request) }
+    pub fn new(alloc: Global, request: ListRequest) -> Result<ListProgress, NoMemory>
+        ensures { IfOk result (λ p. p ≡ started_lists request) }
     {
         let chain = Chain::new(alloc, request.asked, request.family)?;
-        Ok(Progress {
+        Ok(ListProgress {
             asked: request.asked,
             chain,
             documents: 0,
@@ -177,17 +171,6 @@ fn begins_next(chain: &Chain, elements: u8) -> bool
         → IsElsewhere chain.now.current.elements chain.now.current.maps elements }
 {
     elements == chain.elements() + 1 && elements != MAX_ELEMENTS && chain.len() > 0
-}
-
-/// The end of a run with a refusal.
-fn ended(alloc: Global, line: Line) -> Result<Step, NoMemory>
-    ensures status { IfOk result (λ step. step.status ≡ Status.Refused) }
-    ensures text { IfOk result (λ step. step.text.items ≡ line_text line) }
-{
-    Ok(Step {
-        text: text_of(alloc, &line)?,
-        status: Status::Refused,
-    })
 }
 
 /// Ends the list that is being read, and gives its line. If it isn't shown, or memory runs out, the chain is unchanged.

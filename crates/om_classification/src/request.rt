@@ -2,22 +2,31 @@
 
 ghost use Rattle.std.specs.Prelude.{◌≡◌, ◌↔◌, ◌∷◌, IfErr, IsTrue, map, string_bytes};
 ghost use Rattle.om_words.specs.Words.{IsFault};
-ghost use Rattle.om_classification.specs.Requests.{IsRequest, Names, family_word};
+ghost use Rattle.om_classification.specs.Requests.{IsRequest, Names, family_word, least_word};
 
 use om_chain::Asked;
 use om_levels::Family;
 use om_printing::Usage;
 
-/// What the words ask: of which family the lists are, and what is shown of each.
+/// What the words ask.
 #[derive(Clone, Copy, Debug, PartialEq, Eq)]
-pub struct Request {
+pub enum Request {
+    /// Lists are to be shown.
+    Lists(ListRequest),
+    /// The least map of the class of each document is to be written.
+    Least,
+}
+
+/// Of which family lists are, and what is shown of each.
+#[derive(Clone, Copy, Debug, PartialEq, Eq)]
+pub struct ListRequest {
     pub family: Family,
     pub asked: Asked,
 }
 
 /// What the words ask. `all` names the simple chirotopes and `uniform` the uniform ones. Alone it asks for exact lists,
-/// and with `--complete` behind it for complete ones. [`Usage`] comes exactly for other words, and says which one is at
-/// fault. The call allocates no memory.
+/// and with `--complete` behind it for complete ones. `least` alone asks for least maps. [`Usage`] comes exactly for
+/// other words, and says which one is at fault. The call allocates no memory.
 pub fn request_of(words: &[String]) -> Result<Request, Usage>
     ensures request { (r : Request) → (result ≡ Ok r) ↔ Names (map string_bytes words.now) r }
     ensures usage { IfErr result (λ usage. IsFault IsRequest (map string_bytes words.now) usage.word) }
@@ -34,9 +43,23 @@ fn after_first(first: &String, rest: &[String]) -> Result<Request, Usage>
     ensures usage { IfErr result (λ usage.
         IsFault IsRequest (string_bytes first.now ∷ map string_bytes rest.now) usage.word) }
 {
+    if is_word(first, "least") {
+        return after_least(rest);
+    }
     match named_family(first) {
         Some(family) => after_family(family, rest),
         None => Err(Usage { word: 1 }),
+    }
+}
+
+/// What the words after `least` ask.
+fn after_least(rest: &[String]) -> Result<Request, Usage>
+    ensures request { (r : Request) → (result ≡ Ok r) ↔ Names (least_word ∷ map string_bytes rest.now) r }
+    ensures usage { IfErr result (λ usage. IsFault IsRequest (least_word ∷ map string_bytes rest.now) usage.word) }
+{
+    match rest {
+        [] => Ok(Request::Least),
+        [_, ..] => Err(Usage { word: 2 }),
     }
 }
 
@@ -58,10 +81,10 @@ fn after_family(family: Family, rest: &[String]) -> Result<Request, Usage>
         IsFault IsRequest (family_word family ∷ map string_bytes rest.now) usage.word) }
 {
     match rest {
-        [] => Ok(Request {
+        [] => Ok(Request::Lists(ListRequest {
             family,
             asked: Asked::Exact,
-        }),
+        })),
         [option, more @ ..] => after_option(family, option, more),
     }
 }
@@ -77,10 +100,10 @@ fn after_option(family: Family, option: &String, more: &[String]) -> Result<Requ
         return Err(Usage { word: 2 });
     }
     match more {
-        [] => Ok(Request {
+        [] => Ok(Request::Lists(ListRequest {
             family,
             asked: Asked::Complete,
-        }),
+        })),
         [_, ..] => Err(Usage { word: 3 }),
     }
 }

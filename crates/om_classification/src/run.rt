@@ -1,4 +1,4 @@
-//! A whole run: the documents of a source, list by list.
+//! A whole run: the documents of a source, one after the other.
 
 ghost use Rattle.std.specs.Prelude.{ℕ, ◌≡◌, ◌≢◌, ◌⊎◌, ◌≤◌, ◌++◌, ◌∷◌, List, [], Option, IfSome, map};
 ghost use Rattle.std.specs.Prelude.{option_map, string_bytes};
@@ -6,7 +6,7 @@ ghost use Rattle.om_port.specs.Causes.{Rose, TakesSome};
 ghost use Rattle.om_pieces.specs.Making.{made, option_list};
 ghost use Rattle.om_classification.specs.declared.request.Request.{Request as Asking};
 ghost use Rattle.om_classification.specs.Requests.{IsRequest, Names};
-ghost use Rattle.om_classification.specs.Progress.{IsGoing, IsOutcome, IsStopped};
+ghost use Rattle.om_classification.specs.Answers.{IsGoing, IsOutcome, IsStopped};
 ghost use Rattle.om_classification.specs.Runs.{HasRun, IsUsageCutOff, IsUsageWritten, TakesAll};
 
 use super::progress::Progress;
@@ -29,13 +29,17 @@ const ENDS: u8 = 1;
 /// built in. The line of a list is written as soon as the list has ended. The first thing that is wrong ends the run,
 /// with a line that says what it is.
 ///
-/// The words are `all` or `uniform`, alone or followed by `--complete`. The status is [`Status::Done`] if all lists
-/// are shown, and [`Status::Refused`] if something is wrong. It is [`Status::Limit`] if a member has too many
-/// extensions to be listed. A fault or a lack of memory ends the run at once. So do 2^64 - 1 documents or readings,
-/// with [`Status::NoMemory`]: at a thousand million a second they would take 584 years.
+/// Or it reads documents of chirotopes of rank 3, and writes for each the document of the least map of its class, before
+/// it reads the next. The first document at fault ends the run, with the line that the lists have for it.
 ///
-/// Memory is taken for the last two lists, packed, and for two pieces of the stream. Source and sink have to be
-/// ready, as those of `om_port` always are.
+/// The words are `all` or `uniform`, alone or followed by `--complete`, or `least` for least maps. The status is
+/// [`Status::Done`] if all lists are shown or all least maps written, and [`Status::Refused`] if something is wrong. It
+/// is [`Status::Limit`] if a member has too many extensions to be listed. A fault or a lack of memory ends the run at
+/// once. So do 2^64 - 1 documents or readings, with [`Status::NoMemory`]: at a thousand million a second they would take
+/// 584 years.
+///
+/// Memory is taken for the last two lists, packed, or for one least map, and for two pieces of the stream. Source and
+/// sink have to be ready, as those of `om_port` always are.
 ///
 /// Source: Björner, Las Vergnas, Sturmfels, White and Ziegler, *Oriented Matroids*, chapters 3 and 7; Finschi and
 /// Fukuda, *Generation of oriented matroids* (2002).
@@ -52,7 +56,8 @@ pub fn classify<R: Threads + Sync, S: Source, K: Sink>(
     // With Done the pieces of the source are documents of the members of lists, each of them shown, and the lines of
     // the lists were written. With Refused and Limit these are the lines of the first lists, followed by the line that
     // says what is wrong then. With ReadFault and NoMemory they are the lines of the first lists, each whole, and with
-    // WriteFault a proper prefix of such a text.
+    // WriteFault a proper prefix of such a text. For least maps the pieces are documents of chirotopes of rank 3, and in
+    // place of the lines of lists stand the documents of the least maps of their classes, in order.
     ensures answer { (r : Asking) → Names (map string_bytes words.now) r
         → IfSome (S.left source.old) (λ bytes. HasRun r bytes result (K.taken sink.old) (K.taken sink.new)) }
 
@@ -70,7 +75,7 @@ pub fn classify<R: Threads + Sync, S: Source, K: Sink>(
     ensures read { result ≡ Status.ReadFault → Rose (S.faults source.old) (S.faults source.new) }
     ensures write { result ≡ Status.WriteFault → Rose (K.faults sink.old) (K.faults sink.new) }
 
-    // A run whose lists are all shown has taken all that the source had left.
+    // A run with Done has taken all that the source had left.
     ensures taken { result ≡ Status.Done → TakesAll (S.left source.old) (S.left source.new) }
 
     // The bytes given by the source are a prefix of what it had left, and no count falls.
@@ -79,13 +84,13 @@ pub fn classify<R: Threads + Sync, S: Source, K: Sink>(
     ensures sink_later { K.faults sink.old ≤ K.faults sink.new }
 {
     match request_of(words) {
-        Ok(request) => read_lists(rt, alloc, request, source, sink),
+        Ok(request) => read_documents(rt, alloc, request, source, sink),
         Err(usage) => write_usage(sink, usage),
     }
 }
 
-/// Reads the lists of a source.
-fn read_lists<R: Threads + Sync, S: Source, K: Sink>(
+/// Reads the documents of a source.
+fn read_documents<R: Threads + Sync, S: Source, K: Sink>(
     rt: &R,
     alloc: Global,
     request: Request,
@@ -206,7 +211,7 @@ fn take_piece<R: Threads + Sync, K: Sink>(
     }
 }
 
-/// Takes the pieces that the end of the source completes, and the end of the last list.
+/// Takes the pieces that the end of the source completes, and the end of the stream.
 fn take_end<R: Threads + Sync, K: Sink>(
     rt: &R,
     alloc: Global,
@@ -237,7 +242,7 @@ fn take_end<R: Threads + Sync, K: Sink>(
     }
 }
 
-/// Takes the end of the last list.
+/// Takes the end of the stream.
 fn finish<R: Threads + Sync, K: Sink>(
     rt: &R,
     alloc: Global,

@@ -4,7 +4,7 @@ use Rattle.om_reply.specs.declared.status.Status.TheVariants.{Done}
 use Rattle.om_classification.specs.declared.line.Line.TheVariants.{Shown, Gap as GapIn}
 use Rattle.om_classification.specs.Progress.{IsClosing, shown, not_shown}
 use Rattle.om_classification.specs.Texts.{line_text}
-use Rattle.om_classification.proofs.progress.close.Goals as goal
+use Rattle.om_classification.proofs.list_progress.close.Goals as goal
 
 pub returns-in-None-clause-closing : goal.returns-in-None-clause-closing
 returns-in-None-clause-closing g c =

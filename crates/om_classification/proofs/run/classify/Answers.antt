@@ -10,9 +10,9 @@ use Rattle.om_classification.proofs.run.classify.Goals as goal
 
 pub returns-in-Ok-clause-answer : goal.returns-in-Ok-clause-answer
 returns-in-Ok-clause-answer g c = λ r names.
-    subst (λ x. IfSome (g.S.Source.left c.args.source.now) (λ bytes. HasRun x bytes c.read_lists.result
-    (g.K.Sink.taken c.args.sink.now) (g.K.Sink.taken c.read_lists.new.sink)))
-    (same_ok _ _ ((c.in-Ok.ensures.request r).1 names)) c.read_lists.ensures.answer
+    subst (λ x. IfSome (g.S.Source.left c.args.source.now) (λ bytes. HasRun x bytes c.read_documents.result
+    (g.K.Sink.taken c.args.sink.now) (g.K.Sink.taken c.read_documents.new.sink)))
+    (same_ok _ _ ((c.in-Ok.ensures.request r).1 names)) c.read_documents.ensures.answer
 
 pub returns-in-Ok-clause-usage : goal.returns-in-Ok-clause-usage
 returns-in-Ok-clause-usage g c =
@@ -31,7 +31,7 @@ returns-in-Ok-clause-unread g c =
     λ none. absurd (none (c.in-Ok.request, (c.in-Ok.ensures.request c.in-Ok.request).0 refl))
 
 pub returns-in-Ok-clause-only : goal.returns-in-Ok-clause-only
-returns-in-Ok-clause-only g c = λ is asked. c.read_lists.ensures.no_usage is
+returns-in-Ok-clause-only g c = λ is asked. c.read_documents.ensures.no_usage is
 
 pub returns-in-Err-clause-answer : goal.returns-in-Err-clause-answer
 returns-in-Err-clause-answer g c = λ r names. absurd (no_value _ r ((c.in-Err.ensures.request r).1 names))

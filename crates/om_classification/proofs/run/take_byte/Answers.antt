@@ -1,5 +1,5 @@
 use Rattle.std.proofs.Common.{option_map, subst}
-use Rattle.om_classification.specs.Progress.{IsGoing}
+use Rattle.om_classification.specs.Answers.{IsGoing}
 use Rattle.om_classification.proofs.Bytes.{made_byte}
 use Rattle.om_classification.proofs.Written.{going_first}
 use Rattle.om_pieces.specs.Making.{made}

@@ -1,7 +1,7 @@
 use Rattle.std.proofs.Common.{ℕ, ◌≤◌, ◌++◌, List, Option, drop}
 use Rattle.om_pieces.specs.Making.{made}
 use Rattle.om_classification.specs.declared.request.Request.{Request}
-use Rattle.om_classification.specs.Progress.{IsGoing}
+use Rattle.om_classification.specs.Answers.{IsGoing}
 use Rattle.om_classification.proofs.run.take_bytes.Given as goal
 
 abbrev pub invariant-loop-byte : goal.invariant-loop-byte

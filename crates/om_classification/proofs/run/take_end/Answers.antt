@@ -1,7 +1,7 @@
 use Rattle.std.proofs.Common.{[], option_map, refl, sym, subst, append-nil}
 use Rattle.std.proofs.Math.Nat.{le_trans}
 use Rattle.om_pieces.specs.Making.{option_list, rest_of}
-use Rattle.om_classification.specs.Progress.{IsGoing, IsOutcome}
+use Rattle.om_classification.specs.Answers.{IsGoing, IsOutcome}
 use Rattle.om_classification.proofs.Bytes.{made_end}
 use Rattle.om_classification.proofs.Reached.{rose_before}
 use Rattle.om_classification.proofs.Written.{stopped}

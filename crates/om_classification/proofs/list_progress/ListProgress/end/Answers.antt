@@ -4,7 +4,7 @@ use Rattle.om_classification.specs.Progress.{State, IsEnd, IsClosing}
 use Rattle.om_classification.proofs.Closings.{closing_replied, closing_ends}
 use Rattle.om_classification.proofs.Results.{ok_both}
 use Rattle.om_classification.proofs.Steps.{empty_stops}
-use Rattle.om_classification.proofs.progress.Progress.end.Goals as goal
+use Rattle.om_classification.proofs.list_progress.ListProgress.end.Goals as goal
 
 pub returns-then-len-eq0-clause-step : goal.returns-then-len-eq0-clause-step
 returns-then-len-eq0-clause-step g c =

@@ -6,7 +6,7 @@ use Rattle.om_classification.specs.Lists.{IsTextUpToWrong}
 use Rattle.om_classification.specs.Progress.{State}
 use Rattle.om_classification.specs.Texts.{line_text}
 use Rattle.om_classification.proofs.Steps.{goes_on, unfit_stops}
-use Rattle.om_classification.proofs.progress.Progress.join.Goals as goal
+use Rattle.om_classification.proofs.list_progress.ListProgress.join.Goals as goal
 
 pub returns-in-None-clause-step : goal.returns-in-None-clause-step
 returns-in-None-clause-step c = λ r all text piece left d u.

@@ -8,7 +8,7 @@ use Rattle.om_classification.proofs.Closings.{closing_replied, closing_done, clo
 use Rattle.om_classification.proofs.Closings.{wrong_step}
 use Rattle.om_classification.proofs.Results.{ok_both}
 use Rattle.om_classification.proofs.Steps.{elements_stops}
-use Rattle.om_classification.proofs.progress.Progress.place.Goals as goal
+use Rattle.om_classification.proofs.list_progress.ListProgress.place.Goals as goal
 
 pub returns-then-elements-current-clause-step : goal.returns-then-elements-current-clause-step
 returns-then-elements-current-clause-step g c =

@@ -3,7 +3,7 @@ use Rattle.std.proofs.lemmas.Result.{IfOk-weaker}
 use Rattle.om_classification.specs.Progress.{State, IsStep}
 use Rattle.om_classification.proofs.Results.{ok_both}
 use Rattle.om_classification.proofs.Steps.{fault_stops}
-use Rattle.om_classification.proofs.progress.Progress.take.Goals as goal
+use Rattle.om_classification.proofs.list_progress.ListProgress.take.Goals as goal
 
 pub returns-in-Ok-clause-step : goal.returns-in-Ok-clause-step
 returns-in-Ok-clause-step g c =

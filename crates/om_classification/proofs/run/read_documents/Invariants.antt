@@ -1,7 +1,7 @@
 use Rattle.std.proofs.Common.{◌≤◌}
 use Rattle.om_port.specs.Causes.{TakesSome}
 use Rattle.om_classification.proofs.Reached.{Reaches}
-use Rattle.om_classification.proofs.run.read_lists.Given as goal
+use Rattle.om_classification.proofs.run.read_documents.Given as goal
 
 abbrev pub invariant-loop-turn : goal.invariant-loop-turn
 invariant-loop-turn g l = record {

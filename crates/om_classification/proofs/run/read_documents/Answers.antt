@@ -4,7 +4,7 @@ use Rattle.om_classification.proofs.Reached.{all_taken, none_taken, reach_end, r
 use Rattle.om_classification.proofs.Reached.{reach_nothing, reach_read_fault, reach_start, reach_stops_later}
 use Rattle.om_classification.proofs.Reached.{rose_before}
 use Rattle.om_classification.proofs.Reached.{taken_more, taken_still, takes_none}
-use Rattle.om_classification.proofs.run.read_lists.Goals as goal
+use Rattle.om_classification.proofs.run.read_documents.Goals as goal
 
 pub loop-turn-init : goal.loop-turn-init
 loop-turn-init g c = record {
