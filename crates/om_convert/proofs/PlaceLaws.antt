@@ -1,14 +1,13 @@
 -- The vectors of increasing lists, gathered by the places of the lists in lexicographic order.
 --
 -- Main results: gathered_more (one place more), cause_at_place, all_places (all places are all increasing lists of the
--- size), and what this says of circuits and cocircuits (circuits_of_places, no_circuits, cocircuits_of_places,
+-- size), and what this says of circuits and cocircuits (circuits_of_places, cocircuits_of_places,
 -- no_cocircuits).
-use Rattle.std.proofs.Common.{ℕ, ◌≡◌, ◌+◌, ◌-◌, ◌<◌, ◌≤◌, ◌⊎◌, List, [], length, sym, ap, subst, ◌∙◌, inl, inr, arith}
+use Rattle.std.proofs.Common.{ℕ, ◌≡◌, ◌+◌, ◌-◌, ◌<◌, ◌⊎◌, List, [], length, sym, ap, subst, ◌∙◌, inl, inr, arith}
 use Rattle.std.proofs.lemmas.Bool.{cases_lt}
 use Rattle.om_signs.specs.declared.sign.Sign.{Sign}
 use Rattle.om_subsets.specs.Subsets.{choose, rank_of, subset_at, IsSubsetFrom}
 use Rattle.om_subsets.proofs.Order.{listed, rank_from-lt, get_or-rank_from}
-use Rattle.om_subsets.proofs.Counts.{too_long}
 use Rattle.om_chirotope.specs.Map.{SignMap, circuit_vector, cocircuit_vector}
 use Rattle.om_denotation.specs.Circuits.{IsCircuitOfChirotope, IsCocircuitOfChirotope}
 use Rattle.om_denotation.specs.Listings.{AreAllOf}
@@ -117,11 +116,6 @@ module _ (m : SignMap) where
       → IsCause (IsCircuitOfChirotope m) e
   circuit_cause e c = cause_of_cause (IsOfIncreasing (circuit_vector m) m.elements (m.rank + 1))
       (IsCircuitOfChirotope m) circuit_of_increasing e c
-
-  pub no_circuits : m.elements ≤ m.rank → AreAllOf (IsCircuitOfChirotope m) []
-  no_circuits l =
-      none_gathered (IsCircuitOfChirotope m)
-      (λ X h. let s = h.size in too_long m.elements h.tuple h.increasing (omega (arith, l, s)))
 
   cocircuit_of_increasing : 0 < m.rank → (X : List Sign) → IsOfIncreasing (cocircuit_vector m) m.elements (m.rank - 1) X
       → IsCocircuitOfChirotope m X

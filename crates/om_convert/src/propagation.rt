@@ -44,11 +44,9 @@ pub fn propagated_map(
     ensures normal { IfOk result (λ raw. IsEachNormalOf elements vectors.now (map_of raw)) }
 {
     let mut signs = List::new(alloc);
-    let mut t = Subset::first(rank, elements);
-    for _k in 0..Subset::choose(elements, rank) {
+    for t in Subset::all(rank, elements) {
         let sign = sign_of(vectors, signs.as_slice(), t);
         signs.push(sign)?;
-        t = t.following();
     }
     Ok(RawMap {
         rank,

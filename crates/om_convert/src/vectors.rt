@@ -22,17 +22,10 @@ pub fn all_circuits(alloc: Global, chi: &Chirotope) -> Result<MemberSet, Convert
     ensures many { IfErr result (IsCause (IsCircuitOfChirotope chi.now)) }
     ensures lawful { IsChirotope chi.now }
 {
-    let elements = chi.elements();
-    let rank = chi.rank();
     let mut circuits = MemberSet::new(alloc);
-    if rank < elements {
-        let size = rank + 1;
-        let mut s = Subset::first(size, elements);
-        for _k in 0..Subset::choose(elements, size) {
-            let v = chi.circuit_of(s);
-            circuits.insert_signed(v)?;
-            s = s.following();
-        }
+    for s in Subset::all(chi.rank() + 1, chi.elements()) {
+        let v = chi.circuit_of(s);
+        circuits.insert_signed(v)?;
     }
     Ok(circuits)
 }
@@ -44,17 +37,14 @@ pub fn all_cocircuits(alloc: Global, chi: &Chirotope) -> Result<MemberSet, Conve
     ensures high { chi.now.elements ≤ MAX_ELEMENTS }
     ensures lawful { IsChirotope chi.now }
 {
-    let elements = chi.elements();
-    let rank = chi.rank();
     let mut cocircuits = MemberSet::new(alloc);
-    if 0 < rank {
-        let size = rank - 1;
-        let mut a = Subset::first(size, elements);
-        for _k in 0..Subset::choose(elements, size) {
-            let u = chi.cocircuit_of(a);
-            cocircuits.insert_signed(u)?;
-            a = a.following();
-        }
+    let rank = chi.rank();
+    if rank == 0 {
+        return Ok(cocircuits);
+    }
+    for a in Subset::all(rank - 1, chi.elements()) {
+        let u = chi.cocircuit_of(a);
+        cocircuits.insert_signed(u)?;
     }
     Ok(cocircuits)
 }

@@ -1,9 +1,8 @@
-use Rattle.om_subsets.proofs.Walks.{IsAt}
+use Rattle.std.proofs.Common.{length}
 use Rattle.om_convert.proofs.NormalSigns.{AreSigns}
 use Rattle.om_convert.proofs.propagation.propagated_map.Given as goal
 
-abbrev pub invariant-loop-k : goal.invariant-loop-k
-invariant-loop-k l = record {
-  made : AreSigns l.elements l.rank l.vectors l._k l.signs;
-  at : IsAt l.elements l.rank l._k l.t;
-}
+-- the signs of the sets that came
+abbrev pub invariant-loop-t : goal.invariant-loop-t
+invariant-loop-t l = (goal.iterator-loop-t).can_next l.t-iterator × (goal.iterator-loop-t).is_finite l.t-iterator
+    × AreSigns l.elements l.rank l.vectors (length l.yielded) l.signs
