@@ -14,3 +14,4 @@ pub mod ChirotopeLaws
 pub mod SameFamilies
 pub mod SameMembers
 pub mod WidthLaws
+pub mod MemoryCauses

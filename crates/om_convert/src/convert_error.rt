@@ -18,6 +18,15 @@ pub enum ConvertError {
     Memory,
 }
 
+impl ConvertError {
+    /// The error of a call that only memory can stop.
+    pub fn memory_alone(self) -> NoMemory
+        requires { self ≡ ConvertError.Memory }
+    {
+        NoMemory
+    }
+}
+
 impl From<NoMemory> for ConvertError {
     ghost use Rattle.om_convert.specs.declared.convert_error.ConvertError.TheVariants.{Memory};
 

@@ -165,10 +165,10 @@ fn are_cocircuits_of(alloc: Global, chi: &Chirotope, vectors: &[SignVec]) -> Res
 {
     match all_cocircuits(alloc, chi) {
         Ok(cocircuits) => Ok(cocircuits.is_set_of(vectors)),
-        Err(ConvertError::TooMany { .. }) => Ok(false),
-        // listing the cocircuits of a chirotope, with any number of values, never ends with this error
-        Err(ConvertError::TooWide { .. }) => unreachable!(),
-        Err(ConvertError::Memory) => Err(NoMemory),
+        Err(error) => match error {
+            ConvertError::TooMany { .. } => Ok(false),
+            _ => Err(error.memory_alone()),
+        },
     }
 }
 
@@ -199,10 +199,10 @@ fn are_covectors_of(alloc: Global, chi: &Chirotope, vectors: &[SignVec]) -> Resu
 {
     match all_covectors(alloc, chi) {
         Ok(covectors) => Ok(covectors.is_set_of(vectors)),
-        Err(ConvertError::TooMany { .. }) => Ok(false),
-        // listing the covectors of a chirotope, with any number of values, never ends with this error
-        Err(ConvertError::TooWide { .. }) => unreachable!(),
-        Err(ConvertError::Memory) => Err(NoMemory),
+        Err(error) => match error {
+            ConvertError::TooMany { .. } => Ok(false),
+            _ => Err(error.memory_alone()),
+        },
     }
 }
 
