@@ -60,7 +60,8 @@ module _ (E : List ℕ) (C D : SignVector → Type 0) (pair : IsDualPair E C D) 
   minimal_is_cocircuit X x n least =
       let y = conformal_decomposition E C D pair X x.supported x.orthogonal n.0 n.1 in
       let ny : IsNonzero (y.0 n.0) = subst IsNonzero (sym y.2) n.1 in
-      let back = least y.0 (cocircuit_is_covector E C D pair y.0 y.1) (n.0, ny) (λ g m. subst IsNonzero (y.3 g m) m) in (
+      let back = least y.0 (cocircuit_is_covector E C D pair y.0 y.1) (n.0, ny)
+      (λ g m. subst IsNonzero (y.3 g m) m) in (
         y.0,
         y.1,
         λ g. ⊎_elim
