@@ -60,7 +60,8 @@ first_at m v k a low placed apart all =
       size = size;
       apart = apart;
       earlier = λ b list sized before.
-          let lower = (lexicographic 1 m.elements b a.elements list placed.list (omega (arith, sized, size))).0 before in
+          let lower =
+          (lexicographic 1 m.elements b a.elements list placed.list (omega (arith, sized, size))).0 before in
           let place = placed.place in
           all b list sized (omega (arith, lower, place));
     }
@@ -115,15 +116,16 @@ first_violated m s a k u placed e first all =
       violated = λ o. first.apart (subst (λ v. IsOrthogonal v (cocircuit_vector m a.elements)) (sym e) o);
       earlier_s = λ t b q before.
           let sized = q.s_size in
-          let lower = (lexicographic 1 m.elements t s.elements q.s_list placed.list (omega (arith, sized, size))).0 before
-          in
+          let lower =
+          (lexicographic 1 m.elements t s.elements q.s_list placed.list (omega (arith, sized, size))).0 before in
           all t b q (omega (arith, lower, place));
       earlier_a = λ b q before.
           subst (λ v. IsOrthogonal v (cocircuit_vector m b)) e (first.earlier b q.a_list q.a_size before);
     }
 
 -- a violated pair denies that every pair is orthogonal
-pub pair_found : (m : SignMap) (s a : Chosen) → IsFirstViolated m s a → IsNone {T = Chosen × Chosen} (Some (s, a)) ↔ HasOrthogonalPairs m
+pub pair_found : (m : SignMap) (s a : Chosen) → IsFirstViolated m s a
+    → IsNone {T = Chosen × Chosen} (Some (s, a)) ↔ HasOrthogonalPairs m
 pair_found m s a first = (
   λ n. absurd (false≢true (sym n)),
   λ h. absurd (first.violated (h s.elements a.elements first.pair)),

@@ -3,7 +3,8 @@
 -- Main definitions: AreBasesMarkedBelow, AreMarkedUpTo
 -- Main results: mark_kept, basis_marked, all_marked, none_marked, mark_only, basis_in_itself, nothing_above,
 -- above_more, all_above; turn_marked and turn_left_out, for a walk over the sets
-use Rattle.std.specs.Prelude.{ℕ, ◌≡◌, ◌≢◌, ◌+◌, ◌-◌, ◌*◌, ◌/◌, ◌%◌, ◌<◌, ◌≤◌, ◌^◌, ◌⊎◌, ◌↔◌, List, [], ◌∷◌, ◌++◌, length}
+use Rattle.std.specs.Prelude.{ℕ, ◌≡◌, ◌≢◌, ◌+◌, ◌-◌, ◌*◌, ◌/◌, ◌%◌, ◌<◌, ◌≤◌, ◌^◌, ◌⊎◌}
+use Rattle.std.specs.Prelude.{◌↔◌, List, [], ◌∷◌, ◌++◌, length}
 use Rattle.std.specs.Int.{bit_at}
 use Rattle.std.proofs.Common.{refl, sym, ◌∙◌, ap, arith, inl, inr, subst, get_or}
 use Rattle.std.proofs.lemmas.Bool.{cases_eq}

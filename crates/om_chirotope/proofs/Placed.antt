@@ -1,11 +1,14 @@
 -- The sets that calls give for the numbers of a lent map, as sets of the map that contracts see.
 --
--- Main results: placed, the set at a place; turn_placed, the set of a turn of a walk.
-use Rattle.std.specs.Prelude.{ℕ, ◌≡◌, length}
+-- Main results: placed, the set at a place; turn_placed and next_placed, the set of a
+-- turn of a walk.
+use Rattle.std.specs.Prelude.{ℕ, ◌≡◌, List, Option, Some, length}
 use Rattle.std.proofs.Common.{subst}
+use Rattle.std.specs.Iterator.{Yields}
+use Rattle.om_subsets.specs.Sets.{all_sets}
 use Rattle.om_subsets.specs.Subsets.{rank_of, IsSubsetFrom}
 use Rattle.om_subsets.specs.Members.{Chosen}
-use Rattle.om_subsets.proofs.SetChains.{IsTurn}
+use Rattle.om_subsets.proofs.SetChains.{IsTurn, at_turn, set_steps}
 use Rattle.om_chirotope.specs.Map.{SignMap}
 
 -- the set at place k of those of r of the elements 1 to n
@@ -30,3 +33,8 @@ turn_placed n r k a turn = record {
   list = turn.at.list;
   place = turn.at.place turn.inside;
 }
+
+-- the same, from what a walk over all sets yielded
+pub next_placed : (n r : ℕ) {s : List Chosen} (xs t u : List Chosen) {o : Option Chosen} {x : Chosen} → s ≡ all_sets n r
+    → Yields set_steps s xs t → o ≡ Some x → set_steps t o u → IsPlaced n r (length xs) x
+next_placed n r xs t u {o} {x} sets y is step = turn_placed n r (length xs) x (at_turn n r xs t u sets y is step)

@@ -7,10 +7,9 @@ use Rattle.om_subsets.proofs.SetChains.{at_turn, number_at_end}
 use Rattle.om_chirotope.specs.Map.{value_of}
 use Rattle.om_chirotope.proofs.Apart.{first_at, orthogonal_more, orthogonal_to_all}
 use Rattle.om_chirotope.proofs.NumberedSets.{sets_of_map}
-use Rattle.om_chirotope.proofs.Placed.{IsPlaced, turn_placed}
+use Rattle.om_chirotope.proofs.Placed.{next_placed}
 use Rattle.om_chirotope.proofs.Tables.{one_below}
 use Rattle.om_chirotope.proofs.cocircuit_table.first_apart_from.Goals as goal
-use Rattle.om_chirotope.proofs.cocircuit_table.first_apart_from.Goals.{After-cocircuit_of}
 
 pub loop-a-init : goal.loop-a-init
 loop-a-init c = record {
@@ -27,13 +26,6 @@ cocircuit_of-requires c =
     c.loop-a.invariant.sets c.loop-a.yielded_by c.in-Some.is c.next.ensures.steps in
     record { n = turn.at.n_is; size = one_below c.requires.rank_low turn.at.size }
 
--- the set of a turn
-here : (c : After-cocircuit_of) → IsPlaced c.args.map.now.elements (c.args.map.now.rank - 1) (length c.loop-a.yielded)
-    c.in-Some.a
-here c =
-    turn_placed _ _ _ _ (at_turn c.args.map.now.elements (c.args.map.now.rank - 1) _ _ _
-    c.loop-a.invariant.sets c.loop-a.yielded_by c.in-Some.is c.next.ensures.steps)
-
 pub orthogonal-requires : goal.orthogonal-requires
 orthogonal-requires c = c.requires.vector
     ∙ sym (ap length c.cocircuit_of.ensures
@@ -41,7 +33,9 @@ orthogonal-requires c = c.requires.vector
 
 pub returns-then-not-orthogonal-clause-first : goal.returns-then-not-orthogonal-clause-first
 returns-then-not-orthogonal-clause-first c =
-    first_at c.args.map.now c.args.vector _ c.in-Some.a c.requires.rank_low (here c.before.before)
+    first_at c.args.map.now c.args.vector _ c.in-Some.a c.requires.rank_low
+    (next_placed c.args.map.now.elements (c.args.map.now.rank - 1) _ _ _
+    c.loop-a.invariant.sets c.loop-a.yielded_by c.in-Some.is c.next.ensures.steps)
     (λ o. false≢true
     (c.if-not-orthogonal.ensures.1 (subst (IsOrthogonal c.args.vector) (sym c.cocircuit_of.ensures) o)))
     c.loop-a.invariant.held
@@ -52,7 +46,8 @@ loop-a-preserved c = record {
   finite = tt;
   sets = c.loop-a.invariant.sets;
   held = orthogonal_more c.args.map.now c.args.vector c.loop-a.yielded _ c.in-Some.a c.requires.rank_low
-      (here c.before.before)
+      (next_placed c.args.map.now.elements (c.args.map.now.rank - 1) _ _ _
+      c.loop-a.invariant.sets c.loop-a.yielded_by c.in-Some.is c.next.ensures.steps)
       (subst (IsOrthogonal c.args.vector) c.cocircuit_of.ensures (c.if-not-orthogonal.ensures.0 refl))
       c.loop-a.invariant.held;
 }

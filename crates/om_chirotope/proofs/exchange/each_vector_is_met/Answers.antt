@@ -1,4 +1,5 @@
-use Rattle.std.proofs.Common.{ℕ, arith, refl, sym, ap, subst, below_more, ◌∙◌, ◌-◌, ◌+◌, ◌<◌, ◌≤◌, ◌∷◌, [], get_or, length}
+use Rattle.std.proofs.Common.{ℕ, arith, refl, sym, ap, subst, below_more, ◌∙◌, ◌-◌, ◌+◌, ◌<◌, ◌≤◌}
+use Rattle.std.proofs.Common.{◌∷◌, [], get_or, length}
 use Rattle.std.proofs.lemmas.Bool.{false≢true}
 use Rattle.std.proofs.lemmas.List.{length-append}
 use Rattle.om_laws.specs.Relations.{along}
@@ -39,7 +40,12 @@ loop-a-preserved c =
     let e = c.cocircuit_of.ensures ∙ ap (cocircuit_vector m) turn.here ∙ sym (table_at m k turn.inside) in
     let met : (j : ℕ) → j < k + 1 → IsMet m (get_or (cocircuit_vectors m) j []) =
     below_more _ _ c.loop-a.invariant.met (subst (IsMet m) e (c.if-not-is_met.ensures.0 refl)) in
-    record { can = tt; finite = tt; sets = c.loop-a.invariant.sets; met = rw (length-append c.loop-a.yielded (c.in-Some.a ∷ [])) met }
+    record {
+      can = tt;
+      finite = tt;
+      sets = c.loop-a.invariant.sets;
+      met = rw (length-append c.loop-a.yielded (c.in-Some.a ∷ [])) met;
+    }
 
 pub returns-then-not-is_met : goal.returns-then-not-is_met
 returns-then-not-is_met c = (

@@ -32,9 +32,10 @@ sign_of-requires c =
 
 pub mark-requires : goal.mark-requires
 mark-requires c =
+    let turn = (numbered_turn _ _ _ c.loop-place.invariant.numbered c.loop-place.yielded_by c.in-Some.is
+    c.next.ensures.steps).turn in
     let within : c.mask.result < 2 ^ c.args.map.now.elements =
-    subst (λ y. c.mask.result < 2 ^ y) (numbered_turn _ _ _ c.loop-place.invariant.numbered c.loop-place.yielded_by c.in-Some.is
-    c.next.ensures.steps).turn.at.n_is c.mask.ensures.bits.within in
+    subst (λ y. c.mask.result < 2 ^ y) turn.at.n_is c.mask.ensures.bits.within in
     let room = c.loop-place.invariant.marked.room in
     omega (arith, within, room)
 

@@ -5,10 +5,9 @@ use Rattle.om_subsets.proofs.SetChains.{at_turn, number_at_end}
 use Rattle.om_chirotope.specs.Map.{value_of}
 use Rattle.om_chirotope.proofs.Apart.{all_below_more, first_violated, pair_found}
 use Rattle.om_chirotope.proofs.NumberedSets.{sets_of_map}
-use Rattle.om_chirotope.proofs.Placed.{IsPlaced, turn_placed}
+use Rattle.om_chirotope.proofs.Placed.{next_placed}
 use Rattle.om_chirotope.proofs.Tables.{all_done}
 use Rattle.om_chirotope.proofs.scan.scan_each.Goals as goal
-use Rattle.om_chirotope.proofs.scan.scan_each.Goals.{After-circuit_of}
 
 pub loop-s-init : goal.loop-s-init
 loop-s-init c = record {
@@ -25,26 +24,23 @@ circuit_of-requires c =
     c.loop-s.invariant.sets c.loop-s.yielded_by c.in-Some.is c.next.ensures.steps).at in
     record { n = at.n_is; size = at.size }
 
--- the set S of a turn
-here : (c : After-circuit_of) → IsPlaced c.args.map.now.elements (c.args.map.now.rank + 1) (length c.loop-s.yielded)
-    c.in-Some.s
-here c =
-    turn_placed _ _ _ _ (at_turn c.args.map.now.elements (c.args.map.now.rank + 1) _ _ _
-    c.loop-s.invariant.sets c.loop-s.yielded_by c.in-Some.is c.next.ensures.steps)
-
 pub first_apart_from-requires-clause-vector : goal.first_apart_from-requires-clause-vector
 first_apart_from-requires-clause-vector c = ap length c.circuit_of.ensures
     ∙ length-as_list c.args.map.now.elements (around (value_of c.args.map.now) c.in-Some.s.elements)
 
 pub returns-in-Some-first_apart_from-clause-first : goal.returns-in-Some-first_apart_from-clause-first
 returns-in-Some-first_apart_from-clause-first c =
-    first_violated c.args.map.now c.in-Some.s c.in-Some-first_apart_from.a _ c.circuit_of.result (here c.before.before)
+    first_violated c.args.map.now c.in-Some.s c.in-Some-first_apart_from.a _ c.circuit_of.result
+    (next_placed c.args.map.now.elements (c.args.map.now.rank + 1) _ _ _
+    c.loop-s.invariant.sets c.loop-s.yielded_by c.in-Some.is c.next.ensures.steps)
     c.circuit_of.ensures c.in-Some-first_apart_from.ensures.first c.loop-s.invariant.all
 
 pub returns-in-Some-first_apart_from-clause-none : goal.returns-in-Some-first_apart_from-clause-none
 returns-in-Some-first_apart_from-clause-none c =
     pair_found c.args.map.now c.in-Some.s c.in-Some-first_apart_from.a
-    (first_violated c.args.map.now c.in-Some.s c.in-Some-first_apart_from.a _ c.circuit_of.result (here c.before.before)
+    (first_violated c.args.map.now c.in-Some.s c.in-Some-first_apart_from.a _ c.circuit_of.result
+    (next_placed c.args.map.now.elements (c.args.map.now.rank + 1) _ _ _
+    c.loop-s.invariant.sets c.loop-s.yielded_by c.in-Some.is c.next.ensures.steps)
     c.circuit_of.ensures c.in-Some-first_apart_from.ensures.first c.loop-s.invariant.all)
 
 pub loop-s-preserved : goal.loop-s-preserved
@@ -52,7 +48,9 @@ loop-s-preserved c = record {
   can = tt;
   finite = tt;
   sets = c.loop-s.invariant.sets;
-  all = all_below_more c.args.map.now c.loop-s.yielded _ c.in-Some.s c.circuit_of.result (here c.before.before)
+  all = all_below_more c.args.map.now c.loop-s.yielded _ c.in-Some.s c.circuit_of.result
+      (next_placed c.args.map.now.elements (c.args.map.now.rank + 1) _ _ _
+      c.loop-s.invariant.sets c.loop-s.yielded_by c.in-Some.is c.next.ensures.steps)
       c.circuit_of.ensures c.in_default.ensures.none c.loop-s.invariant.all;
 }
 
