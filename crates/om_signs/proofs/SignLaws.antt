@@ -1,5 +1,5 @@
--- The algebra of signs: the one home of its laws. Those on the cases of a sign and on the first nonzero one of two signs
--- stand in files of their own, and are cited from here.
+-- The algebra of signs: the one home of its laws. Those on the cases of a sign, and on the first nonzero one of two
+-- signs, stand in files of their own and are cited from here.
 --
 -- Main results: the laws of products, gathered in the ruleset `products`; a sign that is its own opposite is zero
 -- (own_opposite); two nonzero signs are equal or opposite (equal_or_opposite).

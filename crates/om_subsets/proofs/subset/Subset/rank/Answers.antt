@@ -42,7 +42,10 @@ overflow_sub-rank-in-loop-rest c =
     omega arith
 
 pub overflow_sub-left : goal.overflow_sub-left
-overflow_sub-left c = let size = (turned _ _ c.loop-rest-test.true c.loop-rest.invariant.within c.self.invariant.few).size in let inv = c.loop-rest.invariant.left_is in omega arith
+overflow_sub-left c =
+    let size = (turned _ _ c.loop-rest-test.true c.loop-rest.invariant.within c.self.invariant.few).size in
+    let inv = c.loop-rest.invariant.left_is in
+    omega arith
 
 pub loop-rest-preserved : goal.loop-rest-preserved
 loop-rest-preserved c =
