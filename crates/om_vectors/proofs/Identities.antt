@@ -1,6 +1,6 @@
 -- Identities between triple products.
 --
--- Main results: swap_first, swap_last, repeat_first; four_terms and three_terms.
+-- Main results: swap_first, swap_last, repeat_first; by_first, by_last; four_terms and three_terms.
 use Rattle.std.proofs.Common.{◌≡◌, ◌∙◌, ap}
 use Rattle.std.specs.Prelude.{ℤ, pos, ◌+ℤ◌, ◌-ℤ◌, ◌*ℤ◌, neg_ℤ}
 use Rattle.std.proofs.Math.IntN.{*ℤ-zero, zero-*ℤ}
@@ -26,11 +26,12 @@ swap_last a b c = simp expanding (omega sums)
 pub repeat_first : (a b : WholeVector) → triple_product a a b ≡ pos 0
 repeat_first a b = simp expanding (omega sums)
 
--- the triple product as an inner product with the cross product of the first two, and of the last two
-by_first : (a b c : WholeVector) → triple_product a b c ≡ dot (cross a b) c
+-- the triple product as an inner product with the cross product of the first two
+pub by_first : (a b c : WholeVector) → triple_product a b c ≡ dot (cross a b) c
 by_first a b c = simp expanding (omega sums)
 
-by_last : (a b c : WholeVector) → triple_product a b c ≡ dot a (cross b c)
+-- the triple product as an inner product with the cross product of the last two
+pub by_last : (a b c : WholeVector) → triple_product a b c ≡ dot a (cross b c)
 by_last a b c = simp expanding (omega sums)
 
 -- the two expansions of a vector triple product, in each coordinate

@@ -1,6 +1,6 @@
 //! The triple product of three vectors.
 
-ghost use Rattle.std.specs.Prelude.{◌≡◌, ◌≤◌, ◌*ℤ◌, ◌^◌, unsigned_abs};
+ghost use Rattle.std.specs.Prelude.{◌≡◌, ◌≤◌, ◌-ℤ◌, ◌*ℤ◌, ◌^◌, unsigned_abs};
 ghost use Rattle.om_vectors.specs.WholeVectors.{triple_product};
 ghost use Rattle.om_signs.specs.Coordinates.{IsCoordinate};
 
@@ -13,19 +13,20 @@ use super::vector::Vector;
 pub fn triple(a: Vector, b: Vector, c: Vector) -> i128
     ensures { result ≡ triple_product a b c }
 {
-    product(a.x(), b.y(), c.z()) - product(a.x(), b.z(), c.y()) + product(a.y(), b.z(), c.x())
-        - product(a.y(), b.x(), c.z())
-        + product(a.z(), b.x(), c.y())
-        - product(a.z(), b.y(), c.x())
+    let (bx, by, bz) = (b.x(), b.y(), b.z());
+    let (cx, cy, cz) = (c.x(), c.y(), c.z());
+    term(a.x(), by, cz, bz, cy) + term(a.y(), bz, cx, bx, cz) + term(a.z(), bx, cy, by, cx)
 }
 
-/// The product of three coordinates.
-fn product(x: i64, y: i64, z: i64) -> i128
+/// A coordinate times the difference of two products of coordinates.
+fn term(x: i64, a: i64, d: i64, b: i64, c: i64) -> i128
     requires x { IsCoordinate x }
-    requires y { IsCoordinate y }
-    requires z { IsCoordinate z }
-    ensures value { result ≡ x *ℤ y *ℤ z }
-    ensures size { unsigned_abs result ≤ 2 ^ 120 }
+    requires a { IsCoordinate a }
+    requires d { IsCoordinate d }
+    requires b { IsCoordinate b }
+    requires c { IsCoordinate c }
+    ensures value { result ≡ x *ℤ (a *ℤ d -ℤ b *ℤ c) }
+    ensures size { unsigned_abs result ≤ 2 ^ 121 }
 {
-    x as i128 * y as i128 * z as i128
+    x as i128 * (a as i128 * d as i128 - b as i128 * c as i128)
 }

@@ -1,28 +1,40 @@
-use Rattle.std.proofs.Common.{◌≡◌, arith}
-use Rattle.std.proofs.lemmas.Int.{ints, to_z-of_z}
-use mir.Syntax.{w64, w128}
-use mir.Val.{to_z, of_z}
-use Rattle.om_vectors.proofs.Sizes.{pair_fits, product_fits, product_size}
-use Rattle.om_vectors.proofs.triple_products.product.Goals as goal
+use Rattle.std.proofs.lemmas.Int.{to_z-of_z}
+use mir.Syntax.{w128}
+use Rattle.om_vectors.proofs.Sizes.{read_wide, read_pair, minor_size, minor_fits, term_size, term_fits}
+use Rattle.om_vectors.proofs.triple_products.term.Goals as goal
 
-pub overflow_mul-result-2 : goal.overflow_mul-result-2
-overflow_mul-result-2 c =
-    let x : to_z w128 (of_z w128 (to_z w64 (of_z w64 c.args.x))) ≡ c.args.x = omega (arith, ints) in
-    let y : to_z w128 (of_z w128 (to_z w64 (of_z w64 c.args.y))) ≡ c.args.y = omega (arith, ints) in
-    let z : to_z w128 (of_z w128 (to_z w64 (of_z w64 c.args.z))) ≡ c.args.z = omega (arith, ints) in
+pub overflow_sub-result : goal.overflow_sub-result
+overflow_sub-result c =
     let r = c.requires in
-    rw (x, y, z, to_z-of_z w128 _ (pair_fits c.args.x c.args.y r.x r.y))
-    (product_fits c.args.x c.args.y c.args.z r.x r.y r.z)
+    rw (read_pair c.args.a c.args.d r.a r.d, read_pair c.args.b c.args.c r.b r.c)
+    (minor_fits c.args.a c.args.d c.args.b c.args.c r.a r.d r.b r.c)
+
+pub overflow_mul-result-3 : goal.overflow_mul-result-3
+overflow_mul-result-3 c =
+    let r = c.requires in
+    let fits = minor_fits c.args.a c.args.d c.args.b c.args.c r.a r.d r.b r.c in
+    let size = minor_size c.args.a c.args.d c.args.b c.args.c r.a r.d r.b r.c in
+    rw (
+      read_pair c.args.a c.args.d r.a r.d,
+      read_pair c.args.b c.args.c r.b r.c,
+      to_z-of_z w128 _ fits,
+      read_wide c.args.x r.x,
+    ) (term_fits c.args.x _ r.x size)
 
 pub returns-clause-value : goal.returns-clause-value
 returns-clause-value c =
-    let x : to_z w128 (of_z w128 (to_z w64 (of_z w64 c.args.x))) ≡ c.args.x = omega (arith, ints) in
-    let y : to_z w128 (of_z w128 (to_z w64 (of_z w64 c.args.y))) ≡ c.args.y = omega (arith, ints) in
-    let z : to_z w128 (of_z w128 (to_z w64 (of_z w64 c.args.z))) ≡ c.args.z = omega (arith, ints) in
     let r = c.requires in
-    rw (x, y, z, to_z-of_z w128 _ (pair_fits c.args.x c.args.y r.x r.y))
-    (to_z-of_z w128 _ (product_fits c.args.x c.args.y c.args.z r.x r.y r.z))
+    let fits = minor_fits c.args.a c.args.d c.args.b c.args.c r.a r.d r.b r.c in
+    let size = minor_size c.args.a c.args.d c.args.b c.args.c r.a r.d r.b r.c in
+    rw (
+      read_pair c.args.a c.args.d r.a r.d,
+      read_pair c.args.b c.args.c r.b r.c,
+      to_z-of_z w128 _ fits,
+      read_wide c.args.x r.x,
+    ) (to_z-of_z w128 _ (term_fits c.args.x _ r.x size))
 
 pub returns-clause-size : goal.returns-clause-size
 returns-clause-size c =
-    rw (returns-clause-value c) (let r = c.requires in product_size c.args.x c.args.y c.args.z r.x r.y r.z)
+    let r = c.requires in
+    rw (returns-clause-value c)
+    (term_size c.args.x _ r.x (minor_size c.args.a c.args.d c.args.b c.args.c r.a r.d r.b r.c))
