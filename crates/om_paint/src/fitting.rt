@@ -93,8 +93,8 @@ fn open_to_circuits(colours: &[Colour], sign: Sign) -> u32
     ensures { IsMaskOf (length colours.now) (λ i. CircuitMay (shade (get_or colours.now i Colour.Black)) sign) result }
 {
     let mut mask = 0u32;
-    for i in 0..colours.len() {
-        if circuit_may(colours[i], sign) {
+    for (i, colour) in colours.iter().enumerate() {
+        if circuit_may(*colour, sign) {
             mask |= 1u32 << i;
         }
     }
@@ -108,8 +108,8 @@ fn open_to_cocircuits(colours: &[Colour], sign: Sign) -> u32
         result }
 {
     let mut mask = 0u32;
-    for i in 0..colours.len() {
-        if cocircuit_may(colours[i], sign) {
+    for (i, colour) in colours.iter().enumerate() {
+        if cocircuit_may(*colour, sign) {
             mask |= 1u32 << i;
         }
     }
