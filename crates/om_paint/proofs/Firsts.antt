@@ -2,10 +2,10 @@
 -- circuits and cocircuits.
 --
 -- Main definitions: AreFirsts, IsCircuitIn, IsCocircuitIn
--- Main results: kept_zero, put, placed, met_none, met_more, first_of_circuits, first_of_cocircuits, no_cocircuits
+-- Main results: kept_zero, put, placed, first_is_some, met_none, met_more, first_of_circuits, first_of_cocircuits, no_cocircuits
 use Rattle.std.proofs.Common.{ℕ, ◌≡◌, ◌+◌, ◌-◌, ◌<◌, ◌↔◌, List, length, map, get_or, replicate, set, refl, sym, ap}
 use Rattle.std.proofs.Common.{subst, ◌∙◌, inl, inr, arith}
-use Rattle.std.specs.Prelude.{Option, None, Some}
+use Rattle.std.specs.Prelude.{Option, None, Some, IsSome}
 use Rattle.std.proofs.lemmas.Bool.{cases_eq}
 use Rattle.std.proofs.lemmas.List.{get_or-replicate, get_or-set_same, get_or-set_other, get_or_default}
 use Rattle.std.proofs.lemmas.Option.{same_Some}
@@ -46,6 +46,12 @@ pub placed : (P : ℕ → List Sign → Type 0) (firsts : List (Option (List Sig
     → (d o : Option (List Sign)) → get_or firsts e d ≡ o → IsFirstIfAny (P e) o
 placed P firsts e size lt h d o s =
     subst (IsFirstIfAny (P e)) (get_or_default firsts e None d (omega (arith, size, lt)) ∙ s) (h e lt)
+
+-- the first member is Some, if the family has members
+pub first_is_some : (P : List Sign → Type 0) (o : Option (List Sign)) → IsFirstIfAny P o → (IsFirstIfAny P None → ⊥)
+    → IsSome o
+first_is_some P None h some = absurd (some h)
+first_is_some P (Some X) h some = refl
 
 -- ---- the walk over the sets of a size, with a place for each class
 

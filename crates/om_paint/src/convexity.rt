@@ -86,12 +86,9 @@ fn evidence(chi: &Chirotope, circuits: &Firsts, cocircuits: &Firsts, e: u8) -> P
     ensures painting { IsPaintingOf chi.now (green_alone e) e result }
     ensures extreme { IsCocircuitItem result ↔ IsExtreme chi.now e }
 {
-    if let Some(x) = circuits[e as usize] {
-        return Painted::Circuit(x);
-    }
-    match cocircuits[e as usize] {
-        Some(y) => Painted::Cocircuit(y),
+    match circuits[e as usize] {
+        Some(x) => Painted::Circuit(x),
         // by the painting lemma, some cocircuit fits if no circuit does
-        None => unreachable!(),
+        None => Painted::Cocircuit(cocircuits[e as usize].unwrap()),
     }
 }
