@@ -1,4 +1,4 @@
-use Rattle.std.specs.Prelude.{List, ℕ, Option, None, Some, IfSome, IsNone, IsSome}
+use Rattle.std.specs.Prelude.{Option, None, Some, IfSome, IsNone, IsSome}
 use Rattle.std.proofs.Common.{refl, subst}
 use Rattle.om_subsets.specs.Subsets.{IsMember}
 use Rattle.om_matroid.specs.Search.{IsFirstBetween}
