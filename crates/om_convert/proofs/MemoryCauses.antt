@@ -1,6 +1,7 @@
 -- When memory is the only cause that is left.
 --
--- Main results: memory_is_cause, of a list that isn't too long; memory_is_width_cause, of a chirotope that isn't too wide
+-- Main results: memory_is_cause, of a list that isn't too long; memory_is_width_cause, of a chirotope that isn't too
+-- wide
 use Rattle.std.specs.Prelude.{ℕ, ◌≡◌, List, refl}
 use Rattle.om_signs.specs.declared.sign.Sign.{Sign}
 use Rattle.om_convert.specs.declared.convert_error.ConvertError.{ConvertError}

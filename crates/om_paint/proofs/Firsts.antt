@@ -2,7 +2,8 @@
 -- circuits and cocircuits.
 --
 -- Main definitions: AreFirsts, IsCircuitIn, IsCocircuitIn
--- Main results: kept_zero, put, placed, first_is_some, met_none, met_more, first_of_circuits, first_of_cocircuits, no_cocircuits
+-- Main results: kept_zero, put, placed, first_is_some, met_none, met_more, first_of_circuits,
+-- first_of_cocircuits, no_cocircuits
 use Rattle.std.proofs.Common.{ℕ, ◌≡◌, ◌+◌, ◌-◌, ◌<◌, ◌↔◌, List, length, map, get_or, replicate, set, refl, sym, ap}
 use Rattle.std.proofs.Common.{subst, ◌∙◌, inl, inr, arith}
 use Rattle.std.specs.Prelude.{Option, None, Some, IsSome}
