@@ -1,20 +1,24 @@
 -- The places that the extensions of a chirotope reach, line by line.
 --
--- Main results: none_yet, skipped_line and found_line, the steps; all_lines, the end.
+-- Main results: line_lookup, what is found about a line; none_yet, skipped_line and found_line, the steps; all_lines, the
+-- end.
 use Rattle.std.proofs.Common.{ℕ, List, ◌≡◌, ◌+◌, ◌<◌, ◌≤◌, ◌∷◌, [], ◌++◌, ◌∙◌, sym, ap, subst, inl, inr, length, get_or}
-use Rattle.std.proofs.Common.{All, Bool, false, arith}
+use Rattle.std.proofs.Common.{All, Bool, false, Result, Ok, IfOk, arith}
 use Rattle.std.specs.List.{Contains}
 use Rattle.std.proofs.lemmas.Bool.{cases_lt}
-use Rattle.std.proofs.lemmas.List.{get_or_read}
+use Rattle.std.proofs.lemmas.List.{get_or_read, get_or_default}
 use Rattle.std.proofs.lemmas.List.Elements.{All-nil, All-push, All-get_or, Contains-push, Contains-append_left}
 use Rattle.om_signs.specs.declared.sign.Sign.{Sign}
+use Rattle.om_signs.specs.declared.no_memory.NoMemory.{NoMemory}
+use Rattle.om_parallel.specs.Parts.{AreGivenFrom}
 use Rattle.om_chirotope.specs.Map.{SignMap}
 use Rattle.om_localize.specs.Extensions.{IsSignature}
 use Rattle.om_localize.specs.Listings.{AreFirst}
 use Rattle.om_covers.specs.Growing.{grown}
 use Rattle.om_covers.proofs.Listings.{whole_listing}
 use Rattle.om_levels.specs.Levels.{IsIsomorphicTo}
-use Rattle.om_levels.specs.Steps.{IsMetAt, IsAmong, ArePlaces}
+use Rattle.om_levels.specs.declared.lookup.Lookup.{Lookup}
+use Rattle.om_levels.specs.Steps.{IsMetAt, IsAmong, ArePlaces, IsLookup}
 
 -- each of the first i lines that is tried is met, and the places are of members that are met
 pub record ArePlacesBelow (T : List Sign → Type 0) (c : SignMap) (maps : List SignMap) (lines : List (List Sign))
@@ -28,6 +32,19 @@ module _ (T : List Sign → Type 0) (c : SignMap) (maps : List SignMap) (lines :
     taken = λ j d l t. absurd (omega arith);
     met = subst (All (IsMetAt T c maps)) (sym e) (All-nil (IsMetAt T c maps));
   }
+
+  -- what is found about the line with this number
+  pub line_lookup : (found items : List (Result Lookup NoMemory)) (i : ℕ) (d : Result Lookup NoMemory) (lookup : Lookup)
+      (signs : List Sign)
+      → AreGivenFrom (λ k x. k < length lines → IfOk x (IsLookup T c maps (get_or lines k []))) 0 found
+      → items ≡ found → i < length items → i < length lines → get_or items i d ≡ Ok lookup
+      → signs ≡ get_or lines i signs → IsLookup T c maps signs lookup
+  line_lookup found items i d lookup signs given e inside l is read =
+      let z : 0 + i ≡ i = omega arith in
+      let here = subst (λ j. j < length lines → IfOk (get_or found i d) (IsLookup T c maps (get_or lines j []))) z
+      (given i d (subst (λ xs. i < length xs) e inside)) l in
+      subst (λ s. IsLookup T c maps s lookup) (get_or_default lines i [] signs l ∙ sym read)
+      (subst (λ x. IfOk x (IsLookup T c maps (get_or lines i []))) (sym (ap (λ xs. get_or xs i d) e) ∙ is) here)
 
   -- a line that isn't tried
   pub skipped_line : (i : ℕ) (places : List ℕ) (signs : List Sign) → i < length lines → signs ≡ get_or lines i signs

@@ -1,16 +1,18 @@
 -- The step from a list on n elements to one on n + 1.
 --
 -- Reference: Björner, Las Vergnas, Sturmfels, White and Ziegler, Oriented Matroids, chapter 7.
-use Rattle.std.specs.Prelude.{ℕ, ◌≢◌, ◌<◌, List, length, All, true}
+use Rattle.std.specs.Prelude.{ℕ, ◌≡◌, ◌≢◌, ◌+◌, ◌<◌, List, length, All, true}
 use Rattle.std.specs.List.{Contains}
 use Rattle.om_signs.specs.declared.sign.Sign.{Sign}
-use Rattle.om_signs.specs.declared.limits.TheConstants.{MAX_LINES}
+use Rattle.om_signs.specs.declared.limits.TheConstants.{MAX_ELEMENTS, MAX_LINES}
 use Rattle.om_chirotope.specs.Map.{SignMap}
 use Rattle.om_localize.specs.Extensions.{IsSignature}
 use Rattle.om_localize.specs.Listings.{AreFirst}
 use Rattle.om_covers.specs.Growing.{grown}
 use Rattle.om_covers.specs.Covers.{IsCoverByLines}
 use Rattle.om_levels.specs.declared.family.Family.{Family}
+use Rattle.om_levels.specs.declared.lookup.Lookup.{Lookup}
+use Rattle.om_levels.specs.declared.lookup.Lookup.TheVariants.{NotTried, At, Nowhere}
 use Rattle.om_levels.specs.declared.reaching.Reaching.{Reaching}
 use Rattle.om_levels.specs.declared.reaching.Reaching.TheVariants.{Places, Missing as Lost, TooMany as Many}
 use Rattle.om_levels.specs.declared.verdict.Verdict.{Verdict}
@@ -36,6 +38,26 @@ pub record IsAmong (maps : List SignMap) (places : List ℕ) (m : SignMap) : Typ
 pub record ArePlaces (T : List Sign → Type 0) (c : SignMap) (maps : List SignMap) (places : List ℕ) : Type 0 where
   pub taken : (signs : List Sign) → IsSignature c signs → T signs → IsAmong maps places (grown c signs)
   pub met : All (IsMetAt T c maps) places
+
+-- a search for the extensions of a map with these signs among members that have one element more
+pub record Search : Type 0 where
+  pub family : Family
+  pub map : SignMap
+  pub lines : List (List Sign)
+  pub members : Members
+
+-- the signs are signatures of a map of rank 3
+pub record IsSearch (s : Search) : Type 0 where
+  pub rank : s.map.rank ≡ 3
+  pub room : s.map.elements < MAX_ELEMENTS
+  pub elements : s.members.elements ≡ s.map.elements + 1
+  pub signatures : All (IsSignature s.map) s.lines
+
+-- what is found about the extension of c with these signs
+abbrev pub IsLookup : (List Sign → Type 0) → SignMap → List SignMap → List Sign → Lookup → Type 0
+IsLookup T c maps signs NotTried = T signs → ⊥
+IsLookup T c maps signs (At place) = T signs × IsIsomorphicTo maps (grown c signs) place
+IsLookup T c maps signs Nowhere = T signs
 
 -- a signature of c of which the extension is tried
 pub record IsTried (T : List Sign → Type 0) (c : SignMap) (signs : List Sign) : Type 0 where

@@ -6,6 +6,7 @@
 
 mod family;
 mod level;
+mod lookup;
 mod packing;
 mod reaching;
 mod step;

@@ -1,16 +1,14 @@
 //! The members of a list that the extensions of one chirotope reach.
 
-ghost use Rattle.std.specs.Prelude.{◌≡◌, ◌<◌, ◌+◌, IfOk, IfSome};
-ghost use Rattle.om_localize.specs.Extensions.{IsSignature};
-ghost use Rattle.om_covers.specs.Growing.{grown};
-ghost use Rattle.om_levels.specs.Levels.{IsIsomorphicTo};
+ghost use Rattle.std.specs.Prelude.{◌≡◌, ◌<◌, ◌+◌, IfOk};
 ghost use Rattle.om_levels.specs.Steps.{IsReaching};
 
 use super::family::Family;
+use super::lookup::{Lookup, Lookups};
 use super::table::Table;
 use om_chirotope::Chirotope;
-use om_covers::extension;
 use om_localize::{ExtendError, Signature, extensions};
+use om_parallel::map_parts_by_cost;
 use om_signs::{List, MAX_ELEMENTS, MAX_LINES, NoMemory};
 use std::alloc::Global;
 use std::thread::Threads;
@@ -26,7 +24,11 @@ pub(crate) enum Reaching {
     TooMany,
 }
 
-/// The places of the members that the extensions of a chirotope reach, of those signatures that the family tries.
+/// The time that it takes to look up an extension, in nanoseconds.
+const LOOKUP: u64 = 20_000;
+
+/// The places of the members that the extensions of a chirotope reach, of those signatures that the family tries. The
+/// extensions are looked up on several threads, and the first in the order of the signatures that isn't found is told.
 ///
 /// [`NoMemory`] comes only if memory runs out.
 pub(crate) fn reached_by<R: Threads + Sync>(
@@ -51,35 +53,21 @@ pub(crate) fn reached_by<R: Threads + Sync>(
         return Ok(Reaching::TooMany);
     }
     let lines = listing.lines.as_slice();
+    let lookups = Lookups {
+        alloc,
+        family,
+        chi,
+        lines,
+        table,
+    };
+    let found = map_parts_by_cost(rt, alloc, &lookups, lines.len() as u64, LOOKUP)?;
     let mut places = List::new(alloc);
-    for i in 0..lines.len() {
-        let signature = lines[i];
-        if !family.tries(chi.elements(), signature) {
-            continue;
-        }
-        match place_of_extension(alloc, chi, signature, table)? {
-            Some(place) => places.push(place)?,
-            None => return Ok(Reaching::Missing(signature)),
+    for (i, lookup) in found.iter().enumerate() {
+        match (*lookup)? {
+            Lookup::NotTried => continue,
+            Lookup::At(place) => places.push(place)?,
+            Lookup::Nowhere => return Ok(Reaching::Missing(lines[i])),
         }
     }
     Ok(Reaching::Places(places))
-}
-
-/// The place of a member to which the extension with this signature is isomorphic, or None if it isn't found.
-///
-/// [`NoMemory`] comes only if memory runs out.
-fn place_of_extension(
-    alloc: Global,
-    chi: &Chirotope,
-    signature: Signature,
-    table: &Table,
-) -> Result<Option<usize>, NoMemory>
-    requires rank { chi.now.rank ≡ 3 }
-    requires room { chi.now.elements < MAX_ELEMENTS }
-    requires elements { table.now.elements ≡ chi.now.elements + 1 }
-    requires signature { IsSignature chi.now signature }
-    ensures { IfOk result (λ found. IfSome found (IsIsomorphicTo table.now.maps (grown chi.now signature))) }
-{
-    let extended = extension(alloc, chi, signature)?;
-    table.find(alloc, &extended)
 }

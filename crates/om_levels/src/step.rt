@@ -1,7 +1,7 @@
 //! The step from a list on n elements to one on n + 1.
 
-ghost use Rattle.std.specs.Prelude.{ℕ, ◌≡◌, ◌<◌, ◌+◌, ◌⊎◌, length, replicate, slice_index_or, true, false, All, IfOk, IfSome};
-ghost use Rattle.std.specs.Prelude.{IsNone};
+ghost use Rattle.std.specs.Prelude.{ℕ, ◌≡◌, ◌<◌, ◌+◌, ◌⊎◌, length, replicate, slice_index_or, true, false, All};
+ghost use Rattle.std.specs.Prelude.{IsNone, IfSome, IfOk};
 ghost use Rattle.std.specs.List.{Contains};
 ghost use Rattle.om_covers.specs.Classes.{IsComplete};
 ghost use Rattle.om_levels.specs.declared.verdict.Verdict.TheVariants.{Complete};
@@ -21,7 +21,7 @@ use std::thread::Threads;
 /// first list by those signatures that the family tries are looked up in the next list. These are, for simple
 /// chirotopes, the signatures of which the first nonzero sign is minus and that aren't zero at all pairs with some
 /// element. For uniform ones they are those without zero that begin with minus. Members are handled one after the
-/// other, so that the verdict is the first one in their order.
+/// other, and the extensions of a member on several threads. The verdict is the first one in their order.
 ///
 /// There are fewer than [`MAX_ELEMENTS`] elements in the first list, and one more in the next. Memory comes from
 /// `alloc`: about as much as the next list takes, and 9 bytes for each of its members.
@@ -77,7 +77,8 @@ fn mark(marks: &mut Vec<bool>, places: &[usize])
     ensures len { length marks.new.items ≡ length marks.old.items }
     ensures marked { (k : ℕ) → slice_index_or marks.new.items k false ≡ true
         → (slice_index_or marks.old.items k false ≡ true) ⊎ Contains places.now k }
-    ensures kept { (k : ℕ) → slice_index_or marks.old.items k false ≡ true → slice_index_or marks.new.items k false ≡ true }
+    ensures kept { (k : ℕ) → slice_index_or marks.old.items k false ≡ true
+        → slice_index_or marks.new.items k false ≡ true }
     ensures set { All (λ place. slice_index_or marks.new.items place false ≡ true) places.now }
 {
     for place in places {
@@ -91,10 +92,5 @@ fn first_unmarked(marks: &[bool]) -> Option<usize>
     ensures some { IfSome result (λ k. k < length marks.now) }
     ensures unset { IfSome result (λ k. slice_index_or marks.now k false ≡ false) }
 {
-    for k in 0..marks.len() {
-        if !marks[k] {
-            return Some(k);
-        }
-    }
-    None
+    marks.iter().position(|marked| !*marked)
 }

@@ -1,13 +1,11 @@
-use Rattle.std.proofs.Common.{◌∙◌, All, IfSome, false, refl, sym, ap, subst, Err, arith}
+use Rattle.std.proofs.Common.{◌<◌, ◌∙◌, [], length, All, Ok, Err, false, refl, sym, ap, subst, get_or, arith}
+use Rattle.std.proofs.lemmas.List.{get_or_default}
 use Rattle.om_signs.specs.declared.limits.TheConstants.{MAX_LINES}
-use Rattle.om_subsets.specs.Subsets.{choose}
 use Rattle.om_localize.specs.Extensions.{IsSignature}
 use Rattle.om_localize.specs.Listings.{AreFirst}
-use Rattle.om_localize.proofs.Localizations.{signature_size}
 use Rattle.om_covers.specs.Growing.{grown}
 use Rattle.om_levels.specs.Families.{IsHalfOf}
-use Rattle.om_levels.specs.Levels.{IsIsomorphicTo}
-use Rattle.om_levels.proofs.Places.{found_line, all_lines, listed_signature}
+use Rattle.om_levels.proofs.Places.{line_lookup, skipped_line, found_line, all_lines, listed_signature}
 use Rattle.om_levels.proofs.reaching.reached_by.Goals as goal
 
 pub unreachable-requires : goal.unreachable-requires
@@ -23,41 +21,59 @@ unreachable-requires-in-Err-Full g c =
     let l = c.requires.room in
     omega arith
 
-pub tries-requires-clause-size : goal.tries-requires-clause-size
-tries-requires-clause-size g c =
-    signature_size c.args.chi.now c.index-lines-i.result
-    (listed_signature c.args.chi.now MAX_LINES c.loop-i.i c.in-Ok.listing.more c.in-Ok.listing.lines
-    c.as_slice-lines.result.now c.index-lines-i.result c.in-Ok.ensures.first c.as_slice-lines.ensures (omega arith)
-    c.index-lines-i.is)
-    ∙ ap (λ k. choose k 2) (sym c.elements.ensures.value)
-
-pub place_of_extension-requires-clause-signature : goal.place_of_extension-requires-clause-signature
-place_of_extension-requires-clause-signature g c =
-    listed_signature c.args.chi.now MAX_LINES c.loop-i.i c.in-Ok.listing.more c.in-Ok.listing.lines
-    c.as_slice-lines.result.now c.index-lines-i.result c.in-Ok.ensures.first c.as_slice-lines.ensures (omega arith)
-    c.index-lines-i.is
-
-pub returns-in-None : goal.returns-in-None
-returns-in-None g c = record {
-  signature = listed_signature c.args.chi.now MAX_LINES c.loop-i.i c.in-Ok.listing.more c.in-Ok.listing.lines
-      c.as_slice-lines.result.now c.index-lines-i.result c.in-Ok.ensures.first c.as_slice-lines.ensures (omega arith)
-      c.index-lines-i.is;
-  tried = subst (λ n. IsHalfOf c.args.family n c.index-lines-i.result) c.elements.ensures.value
-      (c.tries.ensures.0 c.if-not-tries.false);
+pub invariant_of-lookups : goal.invariant_of-lookups
+invariant_of-lookups g c = record {
+  rank = c.requires.rank;
+  room = c.requires.room;
+  elements = c.requires.elements;
+  signatures = subst (All (IsSignature c.args.chi.now)) (sym c.as_slice-lines.ensures) c.in-Ok.ensures.first.members;
 }
+
+pub returns-in-Nowhere : goal.returns-in-Nowhere
+returns-in-Nowhere g c =
+    let m = c.args.chi.now in
+    let signs = c.index-lines-i.result in
+    record {
+      signature = listed_signature m MAX_LINES c.loop-i.i c.in-Ok.listing.more c.in-Ok.listing.lines
+          c.as_slice-lines.result.now signs c.in-Ok.ensures.first c.as_slice-lines.ensures
+          (let n = c.in_ok-found.ensures.len in omega arith)
+          c.index-lines-i.is;
+      tried = line_lookup (IsHalfOf c.args.family m.elements) m c.args.table.now.maps c.as_slice-lines.result.now
+          c.in_ok-found.found.items c.deref-lookup-items.result.now c.loop-i.i _ _ signs c.in_ok-found.ensures.each
+          c.deref-lookup-items.ensures.value (omega arith) (let n = c.in_ok-found.ensures.len in omega arith)
+          (c.in_ok-lookup.was ∙ ap Ok c.in-Nowhere.is) c.index-lines-i.is;
+    }
+
+pub loop-i-preserved-in-NotTried : goal.loop-i-preserved-in-NotTried
+loop-i-preserved-in-NotTried g c =
+    let m = c.args.chi.now in
+    let T = IsHalfOf c.args.family m.elements in
+    let lines = c.as_slice-lines.result.now in
+    let i = c.loop-i.i in
+    let l : i < length lines = (let n = c.in_ok-found.ensures.len in omega arith) in
+    let signs = get_or lines i [] in
+    let read = get_or_default lines i [] signs l in
+    let passed = line_lookup T m c.args.table.now.maps lines c.in_ok-found.found.items c.deref-lookup-items.result.now i
+    _ _ signs c.in_ok-found.ensures.each c.deref-lookup-items.ensures.value (omega arith) l
+    (c.in_ok-lookup.was ∙ ap Ok c.in-NotTried.is) read in
+    skipped_line T m c.args.table.now.maps lines i c.loop-i.places signs l read passed c.loop-i.invariant
 
 pub loop-i-preserved : goal.loop-i-preserved
 loop-i-preserved g c =
     let m = c.args.chi.now in
-    let signs = c.index-lines-i.result in
+    let T = IsHalfOf c.args.family m.elements in
+    let maps = c.args.table.now.maps in
+    let lines = c.as_slice-lines.result.now in
+    let i = c.loop-i.i in
+    let l : i < length lines = (let n = c.in_ok-found.ensures.len in omega arith) in
+    let signs = get_or lines i [] in
+    let read = get_or_default lines i [] signs l in
+    let at = line_lookup T m maps lines c.in_ok-found.found.items c.deref-lookup-items.result.now i _ _ signs
+    c.in_ok-found.ensures.each c.deref-lookup-items.ensures.value (omega arith) l
+    (c.in_ok-lookup.was ∙ ap Ok c.in-At.is) read in
     let all = subst (All (IsSignature m)) (sym c.as_slice-lines.ensures) c.in-Ok.ensures.first.members in
-    let tried = subst (λ n. IsHalfOf c.args.family n signs) c.elements.ensures.value
-    (c.tries.ensures.0 c.if-not-tries.false) in
-    let found = subst (λ r. IfSome r (IsIsomorphicTo c.args.table.now.maps (grown m signs))) c.in-Some.is
-    c.in_ok-place.ensures in
-    found_line (IsHalfOf c.args.family m.elements) m c.args.table.now.maps c.as_slice-lines.result.now c.loop-i.i
-    c.in-Some.place c.loop-i.places c.push.new.self signs (grown m signs) (omega arith) c.index-lines-i.is all tried refl
-    found c.in_ok-push-in-Some.ensures.ok c.loop-i.invariant
+    found_line T m maps lines i c.in-At.place c.loop-i.places c.push.new.self signs (grown m signs) l read all at.0
+    refl at.1 c.in_ok-push-in-At.ensures.ok c.loop-i.invariant
 
 pub returns : goal.returns
 returns g c =
@@ -65,4 +81,4 @@ returns g c =
     let first = subst (λ xs. AreFirst (IsSignature m) MAX_LINES xs false) (sym c.as_slice-lines.ensures)
     (subst (AreFirst (IsSignature m) MAX_LINES c.in-Ok.listing.lines) c.if-listing.false c.in-Ok.ensures.first) in
     all_lines (IsHalfOf c.args.family m.elements) m c.args.table.now.maps c.as_slice-lines.result.now MAX_LINES
-    c.loop-i.i c.loop-i.places first (omega arith) c.loop-i.invariant
+    c.loop-i.i c.loop-i.places first (let n = c.in_ok-found.ensures.len in omega arith) c.loop-i.invariant
