@@ -2,8 +2,8 @@
 --
 -- Main results: two elements are in some basis exactly if they have rank 2 (pair_rank); a map without a sign zero is
 -- uniform (uniform_from), and the first set with the sign zero (first_at); a map behind the last of a list (behind_by).
-use Rattle.std.proofs.Common.{ℕ, ◌≡◌, ◌≢◌, ◌+◌, ◌<◌, ◌≤◌, ◌↔◌, List, [], ◌∷◌, length, sym, ap, subst, ◌∙◌, inl, inr, refl}
-use Rattle.std.proofs.Common.{◌-◌, Bool, true, false, IsTrue, arith}
+use Rattle.std.proofs.Common.{ℕ, ◌≡◌, ◌≢◌, ◌+◌, ◌<◌, ◌≤◌, ◌↔◌, List, [], ◌∷◌, length, sym, ap, subst, ◌∙◌, inl, inr}
+use Rattle.std.proofs.Common.{refl, ◌-◌, Bool, true, false, IsTrue, arith}
 use denote.Enum.Bare.{sameb}
 use Rattle.std.proofs.lemmas.Bool.{cases_lt, ne_eqb, lt-ltb, false≢true}
 use Rattle.std.proofs.lemmas.List.{get_or_default}

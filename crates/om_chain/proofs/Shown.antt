@@ -103,6 +103,7 @@ first_shown asked family = shown_from asked family 3 (least_triangle ∷ []) (fi
 
 -- ---- exact lists
 
+-- for the law on exact lists: each map of the family is isomorphic to exactly one member
 pub one_of_each : (family : Family) (n : ℕ) (classes : List SignMap) → IsExact family n classes → (m : SignMap)
     → IsOfFamily family n m → IsOfOneMember classes m
 one_of_each Simple n classes h m p =

@@ -15,7 +15,8 @@ returns-then-eq-clause-some c =
     let set = c.unrank-set.result in
     let n : set.n ≡ m.elements = c.unrank-set.ensures.n ∙ c.elements-elements.ensures.value in
     let size = c.unrank-set.ensures.size ∙ c.rank-rank.ensures.value in
-    let list = subst (λ k. IsSubsetFrom 1 k set.elements) c.elements-elements.ensures.value c.unrank-set.ensures.lawful in
+    let list = subst (λ k. IsSubsetFrom 1 k set.elements) c.elements-elements.ensures.value
+    c.unrank-set.ensures.lawful in
     let place = subst (λ k. rank_of k set.elements ≡ c.loop-place.place) c.elements-elements.ensures.value
     c.unrank-set.ensures.place in
     let zero : chi_of m set.elements ≡ Zero =
