@@ -1,12 +1,16 @@
 -- The distinct members of a list, member by member.
 --
--- Main results: distinct-append, distinct-each, with_member_grows, with_each_grows
+-- Main results: distinct-append, distinct-each, with_member_grows, with_each_grows, any_same_row
 use Rattle.std.proofs.Common.{◌≡◌, ◌≤◌, List, [], ◌∷◌, ◌++◌, Bool, true, false, cond, not, ◌||◌, inl, inr}
 use Rattle.std.proofs.Common.{length, refl, sym, ap, ◌∙◌, arith, length-append, append_assoc, append-nil}
-use Rattle.std.specs.Prelude.{filter, IsTrue}
+use Rattle.std.specs.Prelude.{filter}
+use Rattle.std.specs.Cmp.{both_ways, Equal-is}
+use Rattle.std.specs.Ordering.{is_eq}
 use Rattle.std.specs.List.{list_any}
 use Rattle.std.proofs.lemmas.Bool.{cases_Bool}
 use Rattle.om_signs.specs.declared.sign.Sign.{Sign}
+use Rattle.om_signs.specs.Order.{lexicographic}
+use Rattle.om_signs.specs.OrderLaws.{same_masks, matches_eq, same_from_order, order_of_same}
 use Rattle.om_document.specs.Rows.{same_row, distinct}
 use Rattle.om_document.proofs.SameRow.{same_row-Decides}
 use Rattle.om_text.specs.Reading.{with_member, with_each}
@@ -84,9 +88,15 @@ with_each_grows ms [] = omega arith
 with_each_grows ms (x ∷ xs) = let a = with_member_grows ms x in let b = with_each_grows (with_member ms x) xs in
     omega arith
 
-pub same_from_iff : (r : Bool) (x y : List Sign) → (IsTrue r → x ≡ y) × (x ≡ y → IsTrue r) → r ≡ same_row x y
-same_from_iff true x y h = sym ((same_row-Decides x y).1 (h.0 refl))
-same_from_iff false x y h = elim (cases_Bool (same_row x y)) [
-  | inl e ↦ let bad = h.1 ((same_row-Decides x y).0 e) in cc
-  | inr n ↦ sym n
-]
+-- `==` of two sign vectors is the test of the definition
+same_masks_row : (y x : List Sign) → same_masks y x ≡ same_row y x
+same_masks_row y x = both_ways (same_masks y x) (same_row y x)
+    (λ h. (same_row-Decides y x).1 (same_from_order y x ((Equal-is (lexicographic y x)).0 (sym (matches_eq y x) ∙ h))))
+    (λ h. matches_eq y x ∙ ap is_eq (order_of_same y x ((same_row-Decides y x).0 h)))
+
+-- and so `contains` says whether one of the members passes it
+pub any_same_row : (x : List Sign) (ms : List (List Sign))
+    → list_any (λ y. same_masks y x) ms ≡ list_any (λ y. same_row y x) ms
+any_same_row x [] = refl
+any_same_row x (y ∷ ys) = ap (λ b. b || list_any (λ y. same_masks y x) ys) (same_masks_row y x)
+    ∙ ap (λ b. same_row y x || b) (any_same_row x ys)

@@ -1,27 +1,32 @@
 -- What the parts of the reader return on one more line.
 --
--- Main definitions: list_within_limit
--- Main results: memory_out, point_unread, point_beyond, point_added, word_refused, block_added, list_length,
--- list_refused, list_added, still_refused, names_taken, no_names_taken, name_refused, all_names, names_missing, closed,
+-- Main definitions: list_with_line
+-- Main results: memory_out, point_unread, point_beyond, point_added, word_refused, block_added, list_step,
+-- signs_counted, no_signs_counted, no_values_read, values_beyond, values_added, still_refused, names_taken, no_names_taken, name_refused, all_names, names_missing, closed,
 -- not_closed
-use Rattle.std.proofs.Common.{◌≡◌, ℕ, ◌<◌, ◌≤◌, List, [], ◌∷◌, ◌++◌, Bool, true, false, cond, length, refl, sym, ap}
+use Rattle.std.proofs.Common.{◌≡◌, ℕ, ◌+◌, ◌<◌, ◌≤◌, List, [], ◌∷◌, ◌++◌, Bool, true, false, cond, length, refl, sym, ap}
 use Rattle.std.proofs.Common.{subst, ◌∙◌, append_assoc, append-nil, arith, inl, inr}
-use Rattle.std.specs.Prelude.{ℤ, Option, Some, None, Result, Ok, Err, IsErrAnd, nat_eq, nat_le, ◌&&◌, ◌≢◌}
+use Rattle.std.specs.Prelude.{ℤ, Option, Some, None, Result, Ok, Err, IsOkAnd, IsErrAnd, MatchResult, nat_eq, nat_le}
+use Rattle.std.specs.Prelude.{◌&&◌, ◌≢◌}
+use Rattle.std.specs.Result.{result_map_both}
 use Rattle.std.specs.List.{concat, list_all}
 use Rattle.std.proofs.Math.Bool.{and-false}
-use Rattle.std.proofs.lemmas.Bool.{le-leb, lt-leb, leb-false, eqb-true, eq-eqb, ne_eqb, cases_Bool}
-use Rattle.std.proofs.lemmas.List.{length_push}
+use Rattle.std.proofs.lemmas.Bool.{le-leb, lt-leb, leb-false, eq-eqb, ne_eqb, cases_Bool}
+use Rattle.std.proofs.lemmas.List.{length_push, length-append, length-map}
 use Rattle.std.proofs.lemmas.List.Folds.{list_all-append}
 use Rattle.om_signs.specs.declared.sign.Sign.{Sign}
 use Rattle.om_signs.specs.declared.block.Block.{Block}
+use Rattle.om_signs.specs.declared.raw_map.RawMap.{RawMap}
+use Rattle.om_subsets.specs.Subsets.{choose}
+use Rattle.om_lines.specs.Words.{sign_of_byte}
 use Rattle.om_signs.specs.declared.limits.TheConstants.{MAX_MEMBERS}
 use Rattle.om_document.specs.declared.document.Document.{Document}
 use Rattle.om_document.specs.declared.body.Body.{Body}
-use Rattle.om_document.specs.declared.body.Body.TheVariants.{Points}
+use Rattle.om_document.specs.declared.body.Body.TheVariants.{Chirotope, Points}
 use Rattle.om_document.specs.declared.code.Code.{Code}
 use Rattle.om_document.specs.declared.code.Code.TheVariants as code
 use Rattle.om_document.specs.declared.setting.Setting.{Setting}
-use Rattle.om_document.specs.Document.{has_length_in, is_complete}
+use Rattle.om_document.specs.Document.{are_signs, signs_of_line, is_complete}
 use Rattle.om_document.specs.Names.{is_name, are_different, are_names}
 use Rattle.om_document.specs.Settings.{other_words, is_names_line}
 use Rattle.om_document.proofs.NameForms.{AreKept, names_in}
@@ -31,8 +36,9 @@ use Rattle.om_text.specs.declared.refusal.Refusal.{Refusal}
 use Rattle.om_text.specs.declared.refusal.Refusal.TheVariants as refusal
 use Rattle.om_text.specs.declared.draft.Draft.{Draft}
 use Rattle.om_text.specs.declared.state.State.TheVariants.{Open, Closed}
-use Rattle.om_text.specs.Reading.{with_names, after_choice, after_names, finished_draft, after_end}
-use Rattle.om_text.specs.ReaderParts.{IsStepUnlessMemory, members_within_limit, blocks_with_line, body_with_line}
+use Rattle.om_text.specs.Reading.{with_line_members, with_names, after_choice, after_names, finished_draft, after_end}
+use Rattle.om_text.specs.ReaderParts.{IsStepUnlessMemory, sign_count, members_within_limit, members_with_line}
+use Rattle.om_text.specs.ReaderParts.{blocks_with_line, body_with_line}
 
 -- nothing is said of a part that memory ran out in
 pub memory_out : {A : Type 0} (r : Result A Refusal) (read : Result A Code) → IsErrAnd r (λ e. e ≡ refusal.Memory)
@@ -77,35 +83,89 @@ block_added bs cs w vs v o b read e h q n i =
 
 -- ---- lines of lists
 
--- a line of a list has a sign for each element
-pub list_length : (x b : Body) (n : ℕ) (w : List (List ℕ)) → b ≡ x
-    → has_length_in x n w ≡ nat_eq (length (concat w)) n → has_length_in b n w ≡ true → length (concat w) ≡ n
-list_length x b n w e l h = eqb-true _ _ (sym l ∙ subst (λ b. has_length_in b n w ≡ true) e h)
+-- a part that makes f of what another part reads
+step_mapped : {A B : Type 0} (f : A → B) (r : Result A Refusal) (q : Result B Refusal) (read : Result A Code)
+    → MatchResult r (λ x. IsOkAnd q (λ y. y ≡ f x)) (λ e. q ≡ Err e) → IsStepUnlessMemory r read
+    → IsStepUnlessMemory q (result_map_both f (λ c. c) read)
+step_mapped f (Ok x) (Ok y) read m h = rw (h, m) refl
+step_mapped f (Ok x) (Err e) read m h = absurd m
+step_mapped f (Err refusal.Memory) q read m h = rw m tt
+step_mapped f (Err (refusal.Line c)) q read m h = rw (m, h) refl
 
--- the body that K makes of the members of a list, if they are no more than allowed
-abbrev pub list_within_limit : (List (List Sign) → Body) → List (List Sign) → Result Body Code
-list_within_limit K ms = cond (nat_le (length ms) MAX_MEMBERS) (Ok (K ms)) (Err code.Many)
+-- what a list that is the body K of its members makes of a line
+abbrev pub list_with_line : (List (List Sign) → Body) → Setting → ℕ → List (List Sign) → List (List ℕ)
+    → Result Body Code
+list_with_line K s n ms w =
+    cond (are_signs w)
+    (cond (nat_eq (length (concat w)) n)
+    (cond (nat_le (length (with_line_members s ms w)) MAX_MEMBERS) (Ok (K (with_line_members s ms w))) (Err code.Many))
+    (Err code.Length)) (Err code.Sign)
 
--- a list is refused as its members are
-pub list_refused : (K : List (List Sign) → Body) (ms : List (List Sign)) (e : Refusal) (r : Result Body Refusal)
-    (read : Result Body Code) → read ≡ list_within_limit K ms → IsErrAnd r (λ x. x ≡ e)
-    → IsStepUnlessMemory {A = List (List Sign)} (Err e) (members_within_limit ms) → IsStepUnlessMemory r read
-list_refused K ms refusal.Memory r read q x h = memory_out r read x
-list_refused K ms (refusal.Line c) (Ok b) read q x h = absurd x
-list_refused K ms (refusal.Line c) (Err e) read q x h = rw x (q ∙ at (nat_le (length ms) MAX_MEMBERS) c h)
+-- a list reads a line as its members do
+pub list_step : (K : List (List Sign) → Body) (s : Setting) (n : ℕ) (ms : List (List Sign)) (w : List (List ℕ))
+    (r : Result (List (List Sign)) Refusal) (q : Result Body Refusal)
+    → MatchResult r (λ x. IsOkAnd q (λ y. y ≡ K x)) (λ e. q ≡ Err e)
+    → IsStepUnlessMemory r (members_with_line s n ms w) → IsStepUnlessMemory q (list_with_line K s n ms w)
+list_step K s n ms w r q m h = rw (at (are_signs w) (nat_eq (length (concat w)) n)
+    (nat_le (length (with_line_members s ms w)) MAX_MEMBERS)) (step_mapped K r q (members_with_line s n ms w) m h)
   where
-    at : (b : Bool) (c : Code) → cond b (Ok ms) (Err code.Many) ≡ Err c → cond b (Ok (K ms)) (Err code.Many) ≡ Err c
-    at true c h = cc
-    at false c h = let q : code.Many ≡ c = cc in ap Err q
+    at : (a b c : Bool)
+        → cond a (cond b (cond c (Ok (K (with_line_members s ms w))) (Err code.Many)) (Err code.Length)) (Err code.Sign)
+        ≡ result_map_both K (λ c. c)
+        (cond a (cond b (cond c (Ok (with_line_members s ms w)) (Err code.Many)) (Err code.Length)) (Err code.Sign))
+    at true true true = refl
+    at true true false = refl
+    at true false c = refl
+    at false b c = refl
 
--- a list goes on with its members
-pub list_added : (K : List (List Sign) → Body) (ms xs : List (List Sign)) (read : Result Body Code)
-    → read ≡ list_within_limit K ms → members_within_limit ms ≡ Ok xs → read ≡ Ok (K xs)
-list_added K ms xs read q h = q ∙ at (nat_le (length ms) MAX_MEMBERS) h
+-- the signs of a line are counted if there is no other byte
+pub signs_counted : (w : List (List ℕ)) (o : Option ℕ) (k : ℕ) → o ≡ Some k → o ≡ sign_count w
+    → (are_signs w ≡ true) × (k ≡ length (concat w))
+signs_counted w o k e h = at (are_signs w) (sym e ∙ h)
   where
-    at : (b : Bool) → cond b (Ok ms) (Err code.Many) ≡ Ok xs → cond b (Ok (K ms)) (Err code.Many) ≡ Ok (K xs)
-    at true h = let q : ms ≡ xs = cc in ap (λ m. Ok (K m)) q
+    at : (b : Bool) → Some k ≡ cond b (Some (length (concat w))) None → (b ≡ true) × (k ≡ length (concat w))
+    at true h = (refl, cc)
     at false h = cc
+
+-- and otherwise not
+pub no_signs_counted : (w : List (List ℕ)) (o : Option ℕ) → o ≡ None → o ≡ sign_count w → are_signs w ≡ false
+no_signs_counted w o e h = at (are_signs w) (sym e ∙ h)
+  where
+    at : (b : Bool) → None ≡ cond b (Some (length (concat w))) None → b ≡ false
+    at true h = cc
+    at false h = refl
+
+-- ---- lines of maps
+
+-- a line with a byte that is no sign
+pub no_values_read : (s : Setting) (n : ℕ) (m : RawMap) (w : List (List ℕ)) → are_signs w ≡ false
+    → body_with_line s n (Chirotope m) w ≡ Err code.Sign
+no_values_read s n m w a = rw a refl
+
+-- a value after the last
+pub values_beyond : (s : Setting) (n : ℕ) (m : RawMap) (w : List (List ℕ)) → are_signs w ≡ true
+    → choose m.elements m.rank < length m.signs + length (concat w) → body_with_line s n (Chirotope m) w ≡ Err code.Many
+values_beyond s n m w a l =
+    rw (
+      a,
+      lt-leb (length (m.signs ++ signs_of_line w)) (choose m.elements m.rank)
+          (omega (arith, length-append m.signs (signs_of_line w), length-map (concat w) sign_of_byte)),
+    ) refl
+
+-- more values
+pub values_added : (s : Setting) (n : ℕ) (m : RawMap) (w : List (List ℕ)) (xs : List Sign) → are_signs w ≡ true
+    → length m.signs + length (concat w) ≤ choose m.elements m.rank → xs ≡ m.signs ++ signs_of_line w
+    → body_with_line s n (Chirotope m) w
+    ≡ Ok (Chirotope (record { rank = m.rank; elements = m.elements; signs = xs }))
+values_added s n m w xs a l q =
+    rw (
+      a,
+      le-leb (length (m.signs ++ signs_of_line w)) (choose m.elements m.rank)
+          (omega (arith, length-append m.signs (signs_of_line w), length-map (concat w) sign_of_byte)),
+      q,
+    ) refl
+
+-- ---- members
 
 -- members that are too many stay too many
 pub still_refused : (ms ns : List (List Sign)) (e : Refusal) (r : Result (List (List Sign)) Refusal)

@@ -1,6 +1,7 @@
 -- What the parts of the reader's code do with one more line. Not part of the definition of documents.
 use Rattle.std.specs.Prelude.{ℕ, ◌≡◌, ◌≢◌, ◌≤◌, List, ◌++◌, cond, nat_eq, nat_le, Bool, true, Option, Some, None}
 use Rattle.std.specs.Prelude.{Result, Ok, Err, length}
+use Rattle.std.specs.List.{concat}
 use Rattle.om_signs.specs.declared.limits.TheConstants.{MAX_ELEMENTS, MAX_MEMBERS}
 use Rattle.om_signs.specs.declared.block.Block.{Block}
 use Rattle.om_signs.specs.declared.raw_map.RawMap.{RawMap}
@@ -20,10 +21,11 @@ use Rattle.om_text.specs.declared.parse_error.ParseError.TheVariants as error
 use Rattle.om_document.specs.declared.setting.Setting.{Setting}
 use Rattle.om_text.specs.Fault.{IsFault}
 use Rattle.om_text.specs.Part.{IsDocumentAtFront}
-use Rattle.om_text.specs.Reading.{added_body, outcome}
+use Rattle.om_text.specs.Reading.{with_line_members, added_body, outcome}
 use Rattle.om_lines.specs.Lines.{lines}
 use Rattle.om_document.specs.Blocks.{are_blocks, blocks_on}
-use Rattle.om_document.specs.Document.{has_signs, has_length, has_blocks_in, has_numbers_in, size_of, room_of}
+use Rattle.om_document.specs.Document.{are_signs, has_signs_in, has_length_in, has_blocks_in, has_numbers_in, size_of}
+use Rattle.om_document.specs.Document.{room_of}
 
 -- a part of the reader returns this value, or refuses with this code, unless memory ran out
 abbrev pub IsStepUnlessMemory : {A : Type 0} → Result A Refusal → Result A Code → Type 0
@@ -31,9 +33,9 @@ IsStepUnlessMemory (Ok x) read = read ≡ Ok x
 IsStepUnlessMemory (Err refusal.Memory) read = Unit {0}
 IsStepUnlessMemory (Err (refusal.Line c)) read = read ≡ Err c
 
--- what is wrong with a body line before its words are read
-abbrev pub line_fault : Document → List (List ℕ) → Option Code
-line_fault d w = cond (has_signs d w) (cond (has_length d w) None (Some code.Length)) (Some code.Sign)
+-- how many signs the words of a line have, if all their bytes are those of signs
+abbrev pub sign_count : List (List ℕ) → Option ℕ
+sign_count w = cond (are_signs w) (Some (length (concat w))) None
 
 -- a body on n elements that isn't larger than it may be
 abbrev pub body_within_limit : ℕ → Body → Result Body Code
@@ -43,15 +45,25 @@ body_within_limit n b = cond (nat_le (size_of b) (room_of b n)) (Ok b) (Err code
 abbrev pub members_within_limit : List (List Sign) → Result (List (List Sign)) Code
 members_within_limit ms = cond (nat_le (length ms) MAX_MEMBERS) (Ok ms) (Err code.Many)
 
+-- the members of a list on n elements with those of one more line
+abbrev pub members_with_line : Setting → ℕ → List (List Sign) → List (List ℕ) → Result (List (List Sign)) Code
+members_with_line s n ms w =
+    cond (are_signs w)
+    (cond (nat_eq (length (concat w)) n) (members_within_limit (with_line_members s ms w)) (Err code.Length))
+    (Err code.Sign)
+
 -- blocks with those of a line
 abbrev pub blocks_with_line : List Block → List (List ℕ) → Result (List Block) Code
 blocks_with_line bs w = cond (are_blocks w) (Ok (bs ++ blocks_on w)) (Err code.Block)
 
--- a body on n elements with one more line, whose signs and length are right for the kind
+-- a body on n elements with one more line
 abbrev pub body_with_line : Setting → ℕ → Body → List (List ℕ) → Result Body Code
 body_with_line s n b w =
-    cond (has_blocks_in b w) (cond (has_numbers_in b w) (body_within_limit n (added_body s b w)) (Err code.Number))
-    (Err code.Block)
+    cond (has_signs_in b w)
+    (cond (has_length_in b n w)
+    (cond (has_blocks_in b w)
+    (cond (has_numbers_in b w) (body_within_limit n (added_body s b w)) (Err code.Number)) (Err code.Block))
+    (Err code.Length)) (Err code.Sign)
 
 -- the numbers of a map are in range
 pub record IsMapInRange (m : RawMap) : Type 0 where

@@ -1,15 +1,13 @@
 //! The lines of a body.
 
-ghost use Rattle.std.specs.Prelude.{◌≡◌, ℕ, ◌+◌, ◌-◌, ◌<◌, ◌≤◌, ◌++◌, ◌||◌, length, not, map, true, filter, count_by};
-ghost use Rattle.std.specs.Prelude.{OnOk, IsTrue, ◌↔◌};
-ghost use Rattle.std.specs.List.{list_all, list_any, concat};
-ghost use Rattle.om_lines.specs.Lines.{runs, is_blank};
-ghost use Rattle.om_lines.specs.Words.{is_sign};
-ghost use Rattle.om_document.specs.Document.{are_signs, signs_of_line, members_of_line, has_signs_in, has_length_in};
+ghost use Rattle.std.specs.Prelude.{◌≡◌, ℕ, ◌≤◌, ◌++◌, length, OnOk};
+ghost use Rattle.std.specs.List.{concat, list_any};
+ghost use Rattle.om_lines.specs.Lines.{runs};
+ghost use Rattle.om_document.specs.Document.{signs_of_line};
 ghost use Rattle.om_document.specs.Rows.{same_row};
-ghost use Rattle.om_text.specs.Reading.{with_member, with_each, members_on, with_line_members, added_body};
-ghost use Rattle.om_text.specs.ReaderParts.{IsStepUnlessMemory, IsMapInRange, IsBodyInRange, body_within_limit};
-ghost use Rattle.om_text.specs.ReaderParts.{members_within_limit, blocks_with_line, body_with_line};
+ghost use Rattle.om_text.specs.Reading.{with_member, with_each, members_on};
+ghost use Rattle.om_text.specs.ReaderParts.{IsStepUnlessMemory, IsMapInRange, IsBodyInRange, sign_count};
+ghost use Rattle.om_text.specs.ReaderParts.{members_within_limit, members_with_line, blocks_with_line, body_with_line};
 
 use super::blocks::block_of;
 use super::points::point;
@@ -22,34 +20,23 @@ use om_signs::{
 };
 use om_subsets::Subset;
 
-fn are_sign_bytes(line: &[u8]) -> bool
-    ensures { result ≡ list_all (λ b. is_blank b || is_sign b) line.now }
+/// How many signs the words of a line have. None if they have a byte that is no sign.
+fn sign_count(line: &[u8]) -> Option<usize>
+    ensures { result ≡ sign_count (runs line.now) }
 {
-    line.iter().all(|b| is_blank_byte(*b) || is_sign_byte(*b))
-}
-
-/// Whether the words of a line have no bytes other than those of signs.
-fn are_signs_line(line: &[u8]) -> bool
-    ensures { result ≡ are_signs (runs line.now) }
-{
-    are_sign_bytes(line)
-}
-
-fn full_count(line: &[u8]) -> usize
-    ensures { result ≡ count_by (λ b. not (is_blank b)) line.now }
-{
-    line.iter().filter(|b| !is_blank_byte(**b)).count()
-}
-
-/// The number of bytes in the words of a line.
-pub fn sign_count(line: &[u8]) -> usize
-    ensures { result ≡ length (concat (runs line.now)) }
-{
-    full_count(line)
+    let mut count = 0;
+    for b in line {
+        if is_sign_byte(*b) {
+            count += 1;
+        } else if !is_blank_byte(*b) {
+            return None;
+        }
+    }
+    Some(count)
 }
 
 /// Appends the signs of a line.
-pub fn push_signs(signs: &mut List<Sign>, line: &[u8]) -> Result<(), NoMemory>
+fn push_signs(signs: &mut List<Sign>, line: &[u8]) -> Result<(), NoMemory>
     ensures { OnOk result (signs.new ≡ signs.old ++ signs_of_line (runs line.now)) }
 {
     for b in line {
@@ -64,10 +51,13 @@ pub fn push_signs(signs: &mut List<Sign>, line: &[u8]) -> Result<(), NoMemory>
 fn with_values(mut map: RawMap, line: &[u8]) -> Result<Body, Refusal>
     requires { IsMapInRange map }
     ensures { (n : ℕ) (s : Setting)
-        → IsStepUnlessMemory result (body_within_limit n (added_body s (Body.Chirotope map) (runs line.now))) }
+        → IsStepUnlessMemory result (body_with_line s n (Body.Chirotope map) (runs line.now)) }
 {
+    let Some(count) = sign_count(line) else {
+        return Err(Refusal::Line(Code::Sign));
+    };
     let room = Subset::choose(map.elements, map.rank) as usize;
-    let size = map.signs.len().saturating_add(sign_count(line));
+    let size = map.signs.len().saturating_add(count);
     if room < size {
         return Err(Refusal::Line(Code::Many));
     }
@@ -75,23 +65,11 @@ fn with_values(mut map: RawMap, line: &[u8]) -> Result<Body, Refusal>
     Ok(Body::Chirotope(map))
 }
 
-fn are_equal(a: SignVec, b: SignVec) -> bool
-    ensures { IsTrue result ↔ a ≡ b }
-{
-    a == b
-}
-
-fn same_signs(a: SignVec, b: SignVec) -> bool
-    ensures { result ≡ same_row a b }
-{
-    are_equal(a, b)
-}
-
 /// Whether a sign vector is one of the members.
 fn has_member(members: &[SignVec], member: SignVec) -> bool
     ensures { result ≡ list_any (λ y. same_row y member) members.now }
 {
-    members.iter().any(|m| same_signs(*m, member))
+    members.contains(&member)
 }
 
 /// The sign vector that a line of `elements` signs spells.
@@ -139,7 +117,7 @@ fn with_row_members(
     }
 }
 
-/// The members of a list with those of one more line.
+/// The members of a list with those of one more line, which has a sign for each element.
 fn with_list_line(
     setting: Setting,
     members: List<SignVec>,
@@ -148,10 +126,15 @@ fn with_list_line(
 ) -> Result<List<SignVec>, Refusal>
     requires low { 1 ≤ elements }
     requires high { elements ≤ MAX_ELEMENTS }
-    requires len { length (concat (runs line.now)) ≡ elements }
-    ensures { IsStepUnlessMemory result (members_within_limit (with_line_members setting members (runs line.now))) }
+    ensures { IsStepUnlessMemory result (members_with_line setting elements members (runs line.now)) }
 {
-    with_row_members(setting, members, sign_vector(elements, line))
+    match sign_count(line) {
+        Some(count) if count == elements as usize => {
+            with_row_members(setting, members, sign_vector(elements, line))
+        }
+        Some(_) => Err(Refusal::Line(Code::Length)),
+        None => Err(Refusal::Line(Code::Sign)),
+    }
 }
 
 /// The blocks with those of one more line.
@@ -196,49 +179,24 @@ fn with_point(mut points: List<[i64; 3]>, elements: u8, line: &[u8]) -> Result<B
     Ok(Body::Points(points))
 }
 
-/// Whether the words of a map's or a list's line are signs.
-pub fn has_signs_line(body: &Body, line: &[u8]) -> bool
-    ensures { result ≡ has_signs_in body.now (runs line.now) }
-{
-    match body {
-        Body::Wiring(_) | Body::Points(_) => true,
-        Body::Chirotope(_) | Body::Circuits(_) | Body::Cocircuits(_) | Body::Covectors(_) => {
-            are_signs_line(line)
-        }
-    }
-}
-
-/// Whether a list's line has as many signs as there are elements.
-pub fn has_length_line(body: &Body, elements: u8, line: &[u8]) -> bool
-    ensures { result ≡ has_length_in body.now elements (runs line.now) }
-{
-    match body {
-        Body::Chirotope(_) | Body::Wiring(_) | Body::Points(_) => true,
-        Body::Circuits(_) | Body::Cocircuits(_) | Body::Covectors(_) => {
-            sign_count(line) == elements as usize
-        }
-    }
-}
-
-/// A body with one more line, whose signs and length are right for the kind.
+/// A body with one more line.
 pub fn with_line(setting: Setting, body: Body, elements: u8, line: &[u8]) -> Result<Body, Refusal>
     requires low { 1 ≤ elements }
     requires high { elements ≤ MAX_ELEMENTS }
     requires small { IsBodyInRange body }
-    requires len { has_length_in body elements (runs line.now) ≡ true }
     ensures { IsStepUnlessMemory result (body_with_line setting elements body (runs line.now)) }
 {
     match body {
         Body::Chirotope(map) => with_values(map, line),
-        Body::Circuits(members) => Ok(Body::Circuits(with_list_line(
-            setting, members, elements, line,
-        )?)),
-        Body::Cocircuits(members) => Ok(Body::Cocircuits(with_list_line(
-            setting, members, elements, line,
-        )?)),
-        Body::Covectors(members) => Ok(Body::Covectors(with_list_line(
-            setting, members, elements, line,
-        )?)),
+        Body::Circuits(members) => {
+            with_list_line(setting, members, elements, line).map(Body::Circuits)
+        }
+        Body::Cocircuits(members) => {
+            with_list_line(setting, members, elements, line).map(Body::Cocircuits)
+        }
+        Body::Covectors(members) => {
+            with_list_line(setting, members, elements, line).map(Body::Covectors)
+        }
         Body::Wiring(blocks) => with_blocks(blocks, line),
         Body::Points(points) => with_point(points, elements, line),
     }

@@ -9,9 +9,9 @@ ghost use Rattle.om_document.specs.Document.{is_complete, is_complete_body};
 ghost use Rattle.om_text.specs.Reading.{step, advance, takes_settings, finished_draft, open_step, after_body};
 ghost use Rattle.om_text.specs.Reading.{after_end};
 ghost use Rattle.om_text.specs.ReaderParts.{IsStepUnlessMemory, IsDocumentInRange, IsBodyInRange, IsStateInRange};
-ghost use Rattle.om_text.specs.ReaderParts.{line_fault, has_all_values};
+ghost use Rattle.om_text.specs.ReaderParts.{has_all_values};
 
-use super::body_lines::{has_length_line, has_signs_line, with_line};
+use super::body_lines::with_line;
 use super::draft::Draft;
 use super::kind::kind_line;
 use super::refusal::Refusal;
@@ -101,28 +101,11 @@ fn close(draft: Draft) -> Result<State, Refusal>
     }
 }
 
-/// What is wrong with a body line before its words are read: a byte that is no sign, or more or fewer signs than a
-/// member has.
-fn line_fault(document: &Document, line: &[u8]) -> Option<Code>
-    ensures { result ≡ line_fault document.now (runs line.now) }
-{
-    if !has_signs_line(&document.body, line) {
-        return Some(Code::Sign);
-    }
-    if !has_length_line(&document.body, document.elements, line) {
-        return Some(Code::Length);
-    }
-    None
-}
-
 /// The state after a body line.
 fn body_line(draft: Draft, line: &[u8]) -> Result<State, Refusal>
     requires { IsDocumentInRange draft.document }
     ensures { IsStepUnlessMemory result (after_body draft (runs line.now)) }
 {
-    if let Some(code) = line_fault(&draft.document, line) {
-        return Err(Refusal::Line(code));
-    }
     let Document {
         elements,
         body,
