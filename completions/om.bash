@@ -56,7 +56,7 @@ _om_classes() {
   case "$before$word" in *[\<\>]*) return ;; esac
   _om_option +o default
   case "$COMP_CWORD:${COMP_WORDS[1]}" in
-    1:*) found="all uniform" ;;
+    1:*) found="all uniform least" ;;
     2:all) found="--complete" ;;
     2:uniform) found="--complete" ;;
   esac

@@ -56,6 +56,7 @@ for program in om-classes om_classes
     complete -c $program -f
     complete -c $program -n '__om_first' -a all -d 'whether lists on 4, 5, and so on elements have each class of simple chirotopes, or the first thing that is wrong'
     complete -c $program -n '__om_first' -a uniform -d 'whether they have each class of uniform chirotopes, which have no sign 0'
+    complete -c $program -n '__om_first' -a least -d 'the least chirotope of the class of each document of rank 3, as a document'
     complete -c $program -n '__om_at all 2' -l complete
     complete -c $program -n '__om_at uniform 2' -l complete
 end

@@ -466,6 +466,16 @@ def run_class_faults(tally, program):
     for room in range(len(output) + 1):
         found = run_in_room(program, ["all"], text, room)
         tally.expect("lists in a room of %d bytes" % room, found, (0 if room == len(output) else 5, output[:room]))
+    # they are least already, and each answer is there before the next document is
+    first = text[:text.index(b"end\n") + 4]
+    for read in range(2 * len(first) + 1):
+        wanted = first * (read // len(first))
+        tally.expect("a read that fails behind %d bytes of maps" % read,
+                     run_cut_off(program, ["least"], (first * 2)[:read]), (4, wanted))
+    tally.expect("least maps of maps that are least", run(program, ["least"], text), (0, text))
+    for room in range(len(first)):
+        tally.expect("a least map in a room of %d bytes" % room, run_in_room(program, ["least"], first * 2, room),
+                     (5, first[:room]))
 
 
 def main():
