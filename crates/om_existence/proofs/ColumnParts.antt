@@ -25,7 +25,7 @@ use Rattle.om_existence.proofs.StatementLists.{statements_possible}
 
 -- the numbers of the rows of the first n triples
 rows_to : (m : SignMap) (n : ℕ) → (rows : List ℕ) × AreRowsTo m n rows
-rows_to m zero = ([], no_rows m)
+rows_to m zero = ([], (no_rows m [] refl).rows)
 rows_to m (suc n) =
     let h = rows_to m n in
     let e : n + 1 ≡ suc n = omega arith in
