@@ -1,42 +1,59 @@
--- A document in version 2.
+-- A document that is kept whole.
 --
--- Main results: a map or a list comes back out of its oriented matroid (given_upgraded), and a wiring out of its value
--- (wiring_upgraded).
-use Rattle.std.specs.Prelude.{ℕ, ◌≡◌, List, [], refl}
-use Rattle.std.proofs.Common.{sym, subst, ◌∙◌}
+-- Main results: a map or a list comes back out of its oriented matroid (given_kept), and a wiring out of its value
+-- (wiring_kept); why it isn't kept (given_unkept, points_unkept).
+use Rattle.std.specs.Prelude.{ℕ, ℤ, ◌≡◌, List, [], Ok, Err, refl}
+use Rattle.std.proofs.Common.{ap, ◌∙◌}
 use Rattle.om_signs.specs.declared.block.Block.{Block}
 use Rattle.om_document.specs.declared.body.Body.{Body}
 use Rattle.om_document.specs.declared.body.Body.TheVariants as body
 use Rattle.om_document.specs.declared.document.Document.{Document}
-use Rattle.om_reply.specs.Answers.{upgrades}
-use Rattle.om_representation.specs.Axioms.{MeetsAxiomsOn}
+use Rattle.om_representation.specs.Axioms.{MeetsAxiomsOn, IsFlatOn, IsRefusal}
 use Rattle.om_representation.specs.Documents.{with_map}
-use Rattle.om_commands.specs.Checked.{met}
+use Rattle.om_representation.specs.declared.unrepresented.Unrepresented.{Unrepresented}
+use Rattle.om_representation.specs.declared.unrepresented.Unrepresented.TheVariants.{Refused, Flat, Memory}
 use Rattle.om_commands.specs.Given.{IsGiven}
-use Rattle.om_commands.specs.Upgrades.{IsUpgrade}
+use Rattle.om_commands.specs.Keeping.{IsKept}
 
 -- the document with these parts
 abbrev pub with_names : ℕ → Body → List (List ℕ) → Document
 with_names n b names = record { elements = n; body = b; names = names }
 
-given_kept : (n : ℕ) (b : Body) → IsGiven b → with_map n b ≡ with_names n b []
-given_kept n (body.Chirotope m) given = refl
-given_kept n (body.Circuits members) given = refl
-given_kept n (body.Cocircuits members) given = refl
-given_kept n (body.Covectors members) given = refl
-given_kept n (body.Wiring blocks) given = absurd given
-given_kept n (body.Points points) given = absurd given
+same_given : (n : ℕ) (b : Body) → IsGiven b → with_map n b ≡ with_names n b []
+same_given n (body.Chirotope m) given = refl
+same_given n (body.Circuits members) given = refl
+same_given n (body.Cocircuits members) given = refl
+same_given n (body.Covectors members) given = refl
+same_given n (body.Wiring blocks) given = absurd given
+same_given n (body.Points points) given = absurd given
 
-pub given_upgraded : (n : ℕ) (b : Body) (names : List (List ℕ)) (d : Document) → IsGiven b → d ≡ with_map n b
-    → MeetsAxiomsOn n b → IsUpgrade (with_names n b names) (upgrades (with_names d.elements d.body names))
-given_upgraded n b names d given same axioms =
-    let P : Document → Type 0 = λ e. IsUpgrade (with_names n b names) (upgrades (with_names e.elements e.body names)) in
-    subst P (sym (same ∙ given_kept n b given)) (met _ axioms refl)
+never_flat : (n : ℕ) (b : Body) → IsGiven b → IsFlatOn n b → ⊥
+never_flat n (body.Chirotope m) given flat = flat
+never_flat n (body.Circuits members) given flat = flat
+never_flat n (body.Cocircuits members) given flat = flat
+never_flat n (body.Covectors members) given flat = flat
+never_flat n (body.Wiring blocks) given flat = given
+never_flat n (body.Points points) given flat = given
 
-pub wiring_upgraded : (n : ℕ) (blocks back : List Block) (names : List (List ℕ)) → back ≡ blocks
+pub given_kept : (n : ℕ) (b : Body) (names : List (List ℕ)) (d : Document) → IsGiven b → d ≡ with_map n b
+    → MeetsAxiomsOn n b → IsKept (with_names n b names) (Ok (with_names d.elements d.body names))
+given_kept n b names d given same axioms =
+    (ap (λ e. with_names e.elements e.body names) (same ∙ same_given n b given), axioms)
+
+pub given_unkept : (n : ℕ) (b : Body) (names : List (List ℕ)) (why : Unrepresented) → IsGiven b → IsRefusal n b why
+    → IsKept (with_names n b names) (Err why)
+given_unkept n b names (Refused why) given is = is
+given_unkept n b names Flat given is = never_flat n b given is.1
+given_unkept n b names Memory given is = tt
+
+pub wiring_kept : (n : ℕ) (blocks back : List Block) (names : List (List ℕ)) → back ≡ blocks
     → MeetsAxiomsOn n (body.Wiring blocks)
-    → IsUpgrade (with_names n (body.Wiring blocks) names) (upgrades (with_names n (body.Wiring back) names))
-wiring_upgraded n blocks back names same axioms =
-    let P : List Block → Type 0 =
-    λ bs. IsUpgrade (with_names n (body.Wiring blocks) names) (upgrades (with_names n (body.Wiring bs) names)) in
-    subst P (sym same) (met _ axioms refl)
+    → IsKept (with_names n (body.Wiring blocks) names) (Ok (with_names n (body.Wiring back) names))
+wiring_kept n blocks back names same axioms = (ap (λ bs. with_names n (body.Wiring bs) names) same, axioms)
+
+-- the number of elements plays no part in why points aren't kept
+pub points_unkept : (n k : ℕ) (points : List (List ℤ)) (names : List (List ℕ)) (why : Unrepresented)
+    → IsRefusal k (body.Points points) why → IsKept (with_names n (body.Points points) names) (Err why)
+points_unkept n k points names (Refused why) is = is
+points_unkept n k points names Flat is = is.1
+points_unkept n k points names Memory is = tt

@@ -11,4 +11,4 @@ pub mod OneTest
 mod OneText
 mod OperationLaws
 pub mod ReachLaws
-mod UpgradeLaws
+mod KeepingLaws

@@ -1,5 +1,6 @@
 pub mod Checked
 pub mod Given
+pub mod Keeping
 pub mod Upgrades
 pub mod Memberships
 pub mod Conversions

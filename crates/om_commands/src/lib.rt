@@ -4,6 +4,7 @@
 mod applying;
 mod conversion;
 mod convex_hull;
+mod keeping;
 mod lexical_extension;
 mod membership;
 mod operation;

@@ -1,12 +1,10 @@
 use Rattle.std.proofs.Common.{sym, subst, ◌∙◌}
 use Rattle.om_document.specs.declared.document.Document.{Document}
-use Rattle.om_representation.specs.Axioms.{IsRefusal}
 use Rattle.om_representation.specs.Documents.{document_of}
-use Rattle.om_commands.specs.Checked.{refused}
 use Rattle.om_representation.specs.Widths.{HasFewValues}
 use Rattle.om_representation.proofs.WidthLaws.{few_unless_rank3, few_worked_on}
-use Rattle.om_commands.proofs.UpgradeLaws.{given_upgraded}
-use Rattle.om_commands.proofs.upgrading.upgrade_given.Goals as goal
+use Rattle.om_commands.proofs.KeepingLaws.{given_kept, given_unkept}
+use Rattle.om_commands.proofs.keeping.keep_given.Goals as goal
 
 pub document_of-elements-requires : goal.document_of-elements-requires
 document_of-elements-requires g c =
@@ -15,11 +13,9 @@ document_of-elements-requires g c =
     (subst P (sym c.in-Ok.ensures.value) (few_worked_on _ c.requires.form))
 
 pub returns-in-Ok : goal.returns-in-Ok
-returns-in-Ok g c = given_upgraded c.args.elements c.args.body c.args.names c.document_of-elements.result
+returns-in-Ok g c = given_kept c.args.elements c.args.body c.args.names c.document_of-elements.result
     c.requires.given (c.document_of-elements.ensures.value ∙ c.in-Ok.ensures.value) c.in-Ok.ensures.accepted
 
-pub returns-in-Err-Refused : goal.returns-in-Err-Refused
-returns-in-Err-Refused g c =
-    rw (c.refused_line.ensures, c.in-Err-Refused.why-is)
-    (refused _
-    (subst (IsRefusal c.args.elements c.args.body) c.in-Err-Refused.field-0-is c.in-Err-Refused.ensures.refused))
+pub returns-in-Err : goal.returns-in-Err
+returns-in-Err g c =
+    given_unkept c.args.elements c.args.body c.args.names _ c.requires.given c.in-Err.ensures.refused

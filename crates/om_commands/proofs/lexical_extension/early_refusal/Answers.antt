@@ -1,5 +1,4 @@
 use Rattle.std.proofs.Common.{sym, ap, ◌∙◌}
-use Rattle.om_representation.specs.Documents.{document_of}
 use Rattle.om_words.specs.Tasks.{given_list, elements_of}
 use Rattle.om_commands.specs.LexicalExtensions.{outside, full}
 use Rattle.om_reply.specs.Above.{first_above}
