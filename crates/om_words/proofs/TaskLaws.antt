@@ -92,4 +92,5 @@ lawful_task words (Err usage) exact = tt
 -- words that begin with `decide` name a decision
 pub named_decide : (options : List (List ℕ)) (t : Task) → Names (codes "decide" ∷ options) t → (b : Budgets)
     × (t ≡ task.Decide b)
-named_decide options t names = (shape verb.Decide).only t (sym (same_verb verb.Decide (verb_of t) (ap first_of names.first)))
+named_decide options t names =
+    (shape verb.Decide).only t (sym (same_verb verb.Decide (verb_of t) (ap first_of names.first)))
