@@ -24,7 +24,8 @@ bytes_at bytes rest i h =
     (let e : suc i ≡ i + 1 = omega arith in e))
 
 -- a byte behind which the run goes on
-pub loop_going : (r : Request) (all : List (List ℕ)) (now later : Making) (s new : Progress) (bytes rest : List ℕ) (i : ℕ)
+pub loop_going : (r : Request) (all : List (List ℕ)) (now later : Making) (s new : Progress) (bytes rest : List ℕ)
+    (i : ℕ)
     (t : Status) (o p q : Option (List ℕ)) → i < length bytes → t ≡ Done
     → IsGoing r all s (made now (drop i bytes ++ rest)) o p
     → ((a : List (List ℕ)) (more : List ℕ) (first : Option (List ℕ))

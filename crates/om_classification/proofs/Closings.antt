@@ -56,7 +56,8 @@ wrong_step r all text NoMemory s left other w = w
 -- with the end of the stream
 pub closing_ends : (asked : Asked) (s : State) (new : ChainOfLists) (t : Status) (more : List ℕ)
     → IsClosing asked s.chain new t more → asked ≡ s.chain.asked → 1 ≤ length s.chain.current.maps
-    → (r : ListRequest) (all : List (List ℕ)) (text : List ℕ) → IsUnderway r all text s [] → IsEnd r all (text ++ more) t
+    → (r : ListRequest) (all : List (List ℕ)) (text : List ℕ) → IsUnderway r all text s []
+    → IsEnd r all (text ++ more) t
 closing_ends asked s new t more (shown h) same some r all text u = all_shown r all text s new asked u h some same
 closing_ends asked s new t more (not_shown why w e) same some r all text u =
     wrong_ends r all _ (gap_status why) (gap_not_done why) (gap_stops r all text s [] why u at_end w)

@@ -69,7 +69,8 @@ reach_start r m s (Some all) o e f =
     (begins r (made (nothing ends) all) s o f)
 
 pub reach_further : (r : Request) (now later : Making) (s new : Progress) (all left rest : Option (List ℕ))
-    (bytes : List ℕ) (t : Status) (o p q : Option (List ℕ)) → Reaches r all now s left o p → Consumes left rest bytes → t ≡ Done
+    (bytes : List ℕ) (t : Status) (o p q : Option (List ℕ)) → Reaches r all now s left o p → Consumes left rest bytes
+    → t ≡ Done
     → ((a : List (List ℕ)) (more : List ℕ) (first : Option (List ℕ)) → IsGoing r a s (made now (bytes ++ more)) first p
     → IsOutcome r a t new (made later more) first q)
     → Reaches r all later new rest o q

@@ -94,7 +94,8 @@ chained : (r : ListRequest) (all : List (List ℕ)) (text : List ℕ) (s : State
 chained r all text s left u = ap (λ x. x.chain) u.state
 
 -- the line says what is wrong, and is written
-pub wrong_stops : (r : ListRequest) (all : List (List ℕ)) (text : List ℕ) (s : State) (left : List (List ℕ)) (line : Line)
+pub wrong_stops : (r : ListRequest) (all : List (List ℕ)) (text : List ℕ) (s : State) (left : List (List ℕ))
+    (line : Line)
     (t : Status) (more : List ℕ) (u : IsUnderway r all text s left)
     → IsWrong r u.lists u.maps (length u.front) left line → t ≡ line_status line → more ≡ line_text line
     → IsTextUpToWrong r all t (text ++ more)
@@ -191,7 +192,8 @@ more_read r all text s piece left k m c u d count e = record {
   lines = u.lines;
 }
 
-pub goes_on : (r : ListRequest) (all : List (List ℕ)) (text : List ℕ) (s : State) (piece : List ℕ) (left : List (List ℕ))
+pub goes_on : (r : ListRequest) (all : List (List ℕ)) (text : List ℕ) (s : State) (piece : List ℕ)
+    (left : List (List ℕ))
     (k : ℕ) (m : SignMap) (c : ChainOfLists) → IsUnderway r all text s (piece ∷ left) → IsMember piece m
     → k ≡ s.documents + 1 → c ≡ added s.chain m → IsBetween r all text (state_of c k) left
 goes_on r all text s piece left k m c u d count e = record {

@@ -95,7 +95,8 @@ ended_whole n fronts [] e (before p ps m d size) = absurd (full_empty _ _ e)
 ended_whole n fronts (q ∷ qs) e (before p ps m d size) =
     before q qs m (member_whole q m (subst (λ x. IsMember x m) (heads _ _ _ _ e) d)) size
 
-wrong_whole : (r : ListRequest) (lists : List (List SignMap)) (maps : List SignMap) (k : ℕ) (fronts pieces : List (List ℕ))
+wrong_whole : (r : ListRequest) (lists : List (List SignMap)) (maps : List SignMap) (k : ℕ)
+    (fronts pieces : List (List ℕ))
     (l : Line) → fronts ≡ map (take most) pieces → IsWrong r lists maps k fronts l → IsWrong r lists maps k pieces l
 wrong_whole r lists maps k fronts [] l e (empty first) = empty first
 wrong_whole r lists maps k fronts (q ∷ qs) l e (empty first) = absurd (empty_full _ _ e)
@@ -138,7 +139,8 @@ lists_whole : (r : ListRequest) (pieces : List (List ℕ)) (text : List ℕ) →
 lists_whole r pieces text h =
     record { lists = h.lists; some = h.some; read = read_whole r _ pieces h.lists [] refl h.read; lines = h.lines }
 
-first_lists_whole : (r : ListRequest) (pieces : List (List ℕ)) (text : List ℕ) → IsTextOfFirst r (map (take most) pieces) text
+first_lists_whole : (r : ListRequest) (pieces : List (List ℕ)) (text : List ℕ)
+    → IsTextOfFirst r (map (take most) pieces) text
     → IsTextOfFirst r pieces text
 first_lists_whole r pieces text h =
     let p = parted pieces h.front h.left h.parts in

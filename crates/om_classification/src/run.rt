@@ -29,14 +29,14 @@ const ENDS: u8 = 1;
 /// built in. The line of a list is written as soon as the list has ended. The first thing that is wrong ends the run,
 /// with a line that says what it is.
 ///
-/// Or it reads documents of chirotopes of rank 3, and writes for each the document of the least map of its class, before
-/// it reads the next. The first document at fault ends the run, with the line that the lists have for it.
+/// Or it reads documents of chirotopes of rank 3, and writes for each the document of the least map of its class,
+/// before it reads the next. The first document at fault ends the run, with the line that the lists have for it.
 ///
 /// The words are `all` or `uniform`, alone or followed by `--complete`, or `least` for least maps. The status is
 /// [`Status::Done`] if all lists are shown or all least maps written, and [`Status::Refused`] if something is wrong. It
 /// is [`Status::Limit`] if a member has too many extensions to be listed. A fault or a lack of memory ends the run at
-/// once. So do 2^64 - 1 documents or readings, with [`Status::NoMemory`]: at a thousand million a second they would take
-/// 584 years.
+/// once. So do 2^64 - 1 documents or readings, with [`Status::NoMemory`]: at a thousand million a second they would
+/// take 584 years.
 ///
 /// Memory is taken for the last two lists, packed, or for one least map, and for two pieces of the stream. Source and
 /// sink have to be ready, as those of `om_port` always are.
@@ -56,8 +56,8 @@ pub fn classify<R: Threads + Sync, S: Source, K: Sink>(
     // With Done the pieces of the source are documents of the members of lists, each of them shown, and the lines of
     // the lists were written. With Refused and Limit these are the lines of the first lists, followed by the line that
     // says what is wrong then. With ReadFault and NoMemory they are the lines of the first lists, each whole, and with
-    // WriteFault a proper prefix of such a text. For least maps the pieces are documents of chirotopes of rank 3, and in
-    // place of the lines of lists stand the documents of the least maps of their classes, in order.
+    // WriteFault a proper prefix of such a text. For least maps the pieces are documents of chirotopes of rank 3, and
+    // in place of the lines of lists stand the documents of the least maps of their classes, in order.
     ensures answer { (r : Asking) → Names (map string_bytes words.now) r
         → IfSome (S.left source.old) (λ bytes. HasRun r bytes result (K.taken sink.old) (K.taken sink.new)) }
 
