@@ -66,10 +66,11 @@ FILTERS = [
 CATALOGUE = [
     ("relabel 2 -1 4 3", UNIFORM), ("relabel 2 -1 4 3", VECTORS), ("relabel 9 8 7 6 5 4 3 2 1", ENTRIES),
     ("to-graph6", UNIFORM), ("classes", UNIFORM), ("grow", UNIFORM), ("realize", UNIFORM), ("climb", UNIFORM),
-    ("tally", VECTORS),
+    ("tally", VECTORS), ("least", UNIFORM),
 ]
 REFEREE = [("referee.py", VECTORS), ("referee.py", ENTRIES)]
-NEEDS = {"classes": ["nauty"], "grow": ["nauty", "om_each"], "realize": ["om_each"], "tally": ["om_each"]}
+NEEDS = {"classes": ["nauty"], "grow": ["nauty", "om_each"], "realize": ["om_each"], "tally": ["om_each"],
+         "least": ["om_classes"]}
 
 # words, an input, the exit code and what its message says: files that aren't what they should be; TWO has two documents
 FILES = [
@@ -293,8 +294,10 @@ def look_at_program(line, good):
 
 def programs_here():
     """The programs of catalogue/ that can be run here."""
-    each = os.environ.get("OM_EACH") or os.path.join(TOP, "crates", "om_each", "out", "om_each")
-    has = {"nauty": shutil.which("labelg") or shutil.which("nauty-labelg"), "om_each": shutil.which(each)}
+    has = {"nauty": shutil.which("labelg") or shutil.which("nauty-labelg")}
+    for program in "om_each", "om_classes":
+        has[program] = shutil.which(os.environ.get(program.upper()) or
+                                    os.path.join(TOP, "crates", program, "out", program))
     for line, good in CATALOGUE:
         missing = [tool for tool in NEEDS.get(line.split()[0], []) if not has[tool]]
         if missing:
