@@ -466,6 +466,10 @@ def run_class_faults(tally, program):
     for room in range(len(output) + 1):
         found = run_in_room(program, ["all"], text, room)
         tally.expect("lists in a room of %d bytes" % room, found, (0 if room == len(output) else 5, output[:room]))
+    # of two maps of one class extensions are found at one, whichever that is
+    code, line = run(program, ["uniform", "--complete"], UNIFORM + UNIFORM.replace(b"++++", b"----"))
+    tally.expect("two maps of one class", (code, line[:-2], line[-2:] in (b"1\n", b"2\n")),
+                 (1, b"refused list 4 unmet ", True))
     # they are least already, and each answer is there before the next document is
     first = text[:text.index(b"end\n") + 4]
     for read in range(2 * len(first) + 1):
