@@ -16,6 +16,8 @@ import resource
 import subprocess
 import sys
 
+import commands
+
 TOP = os.path.dirname(os.path.dirname(os.path.abspath(__file__)))
 sys.path.insert(0, os.path.join(TOP, "neighbours"))
 from om import cut
@@ -34,14 +36,7 @@ WIDE = b"om 2\ncircuits 20\nhalf\n" + b"".join(b"0" * (2 * i) + b"+-" + b"0" * (
 NO_EXCHANGE = b"om 1\nchirotope 8 16\n+" + b"0" * 12868 + b"+\nend\n"
 # one sign of the uniform chirotope turned, that of a set whose sign can't be turned alone
 NO_RELATION = b"om 1\nchirotope 8 16\n" + b"+" * 6000 + b"-" + b"+" * 6869 + b"\nend\n"
-COMMANDS = [
-    ["accept"], ["member", "++-+"], ["convert", "circuits"], ["convert", "cocircuits"], ["convert", "covectors"],
-    ["convert", "chirotope"],
-    ["dual"], ["delete", "1"], ["contract", "2"], ["reorient", "1", "3"], ["wiring"], ["mutations"],
-    ["flip", "1", "2", "3"], ["hull"],
-    ["paint", "RRRR", "1"], ["lexext", "+1", "-2"], ["extend", "--first=20"], ["threeterm"], ["upgrade"],
-    ["decide", "--box=1", "--steps=200", "--pivots=50"], ["check"],
-]
+COMMANDS = commands.that_read() + [["convert", kind] for kind in ("chirotope", "cocircuits", "covectors")]
 
 
 def run(words, data=b"", before=None, program=PROGRAM, **streams):
@@ -154,14 +149,11 @@ def changed_examples(tally, random_):
 def little_stack(tally):
     def small():
         resource.setrlimit(resource.RLIMIT_STACK, (600 * 1024, 600 * 1024))
-    for words, data, code in [
-        (["accept"], LARGE, 0), (["threeterm"], LARGE, 0), (["dual"], LARGE, 0), (["hull"], LARGE, 0),
-        (["upgrade"], LARGE, 0),
-        (["convert", "covectors"], RANK_3, 0), (["wiring"], RANK_3, 0), (["mutations"], RANK_3, 0),
-        (["accept"], NO_EXCHANGE, 1),
-        (["threeterm"], NO_EXCHANGE, 1), (["accept"], NO_RELATION, 1), (["threeterm"], NO_RELATION, 1),
-    ]:
-        tally.expect("%s with a stack of 600 KB" % words, run(words, data, before=small), exactly(code))
+    for words in commands.on_documents():
+        for data in LARGE, RANK_3, NO_EXCHANGE, NO_RELATION:
+            wanted = run(words, data)
+            tally.expect("%s with a stack of 600 KB" % words, run(words, data, before=small),
+                         lambda *ended: ended == wanted and ended[0] in (0, 1, 3))
     for data in MOST:
         for words, code in (["accept"], 0), (["threeterm"], 0), (["dual"], 0), (["lexext", "+1"], None), (["hull"], 0):
             tally.expect("%s of a large document with a stack of 600 KB" % words, run(words, data, before=small),

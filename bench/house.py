@@ -16,7 +16,8 @@ What a reader of the sources stumbles over, in this copy of the repository or in
   undocumented lemmas   lemmas of one crate that another crate cites, with no comment on the line above
   unreachable arms      `unreachable!()` in code
   command files         files of the whole repository, apart from this one, with the letters of one command, `upgrade`:
-                        about as many would name a new one. `out` and folders whose name begins with a dot are left out.
+                        about as many would name a new one. `out`, folders whose name begins with a dot, and files
+                        that a script of the repository makes, as they say at their beginning, are left out.
   mere calls            private functions, methods of a trait apart, whose whole body is one call with nothing but
                         their own parameters
 
@@ -43,6 +44,7 @@ CALL = re.compile(r"([\w:.]+)\(([^()]*)\)$")
 CITATION = re.compile(r"use Rattle\.(om\w*)\.proofs\.([^\s{}]+)\.\{([^}]*)\}")
 LONG_ANSWER = 80
 COMMAND = b"upgrade"
+MADE = re.compile(rb"made by [\w/]+\.py|[\w/]+\.py --write` makes this page")
 
 
 def sources(top):
@@ -247,8 +249,9 @@ def command_files(top):
             path = os.path.relpath(os.path.join(folder, name), top)
             if path != own and os.path.isfile(os.path.join(top, path)):
                 with open(os.path.join(top, path), "rb") as file:
-                    if COMMAND in file.read():
-                        yield path
+                    text = file.read()
+                if COMMAND in text and not MADE.search(text[:400]):
+                    yield path
 
 
 def mere_calls(files):

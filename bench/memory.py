@@ -13,26 +13,22 @@ import subprocess
 import sys
 import tempfile
 
+import commands
+
 TOP = os.path.dirname(os.path.dirname(os.path.abspath(__file__)))
 PROGRAM = os.path.abspath(sys.argv[1]) if len(sys.argv) > 1 else os.path.join(TOP, "crates", "om", "out", "om")
 EACH = os.path.abspath(sys.argv[2]) if len(sys.argv) > 2 else os.path.join(TOP, "crates", "om_each", "out", "om_each")
 UNIFORM = b"om 1\nchirotope 3 4\n++++\nend\n"
 CIRCUITS = b"om 1\ncircuits 4\n-+-+\n+-+-\nend\n"
-COMMANDS = [
-    (["accept"], UNIFORM), (["accept"], CIRCUITS), (["convert", "circuits"], UNIFORM),
-    (["convert", "cocircuits"], UNIFORM),
-    (["convert", "covectors"], UNIFORM), (["convert", "chirotope"], CIRCUITS), (["dual"], CIRCUITS),
-    (["delete", "1"], CIRCUITS),
-    (["wiring"], UNIFORM), (["mutations"], UNIFORM), (["flip", "1", "2", "3"], UNIFORM),
-    (["extend", "--first=10"], UNIFORM), (["hull"], UNIFORM),
-    (["lexext", "+4"], UNIFORM), (["decide", "--box=1"], UNIFORM), (["make", "7", "--count=4"], b""),
+COMMANDS = [(words, UNIFORM) for words in commands.on_documents()] + [
+    (["accept"], CIRCUITS), (["convert", "cocircuits"], UNIFORM), (["convert", "covectors"], UNIFORM),
+    (["convert", "chirotope"], CIRCUITS), (["dual"], CIRCUITS), (["delete", "1"], CIRCUITS),
+    (["extend", "--first=10"], UNIFORM), (["make", "7", "--count=4"], b""),
 ]
 # streams, by their documents
-STREAMS = [
+STREAMS = [(words, [UNIFORM, CIRCUITS, b"om 1\n"]) for words in commands.on_documents()] + [
     (["accept"], [UNIFORM, b"om 1\nchirotope 2 4\n+-++++\nend\n", b"# a\n" + UNIFORM]),
-    (["convert", "cocircuits"], [UNIFORM, CIRCUITS, UNIFORM]),
-    (["dual"], [CIRCUITS, UNIFORM]), (["extend", "--first=10"], [UNIFORM, UNIFORM]),
-    (["upgrade"], [UNIFORM, CIRCUITS, b"om 1\n"]), (["decide", "--box=1"], [UNIFORM, UNIFORM]),
+    (["convert", "cocircuits"], [UNIFORM, CIRCUITS, UNIFORM]), (["extend", "--first=10"], [UNIFORM, UNIFORM]),
 ]
 SOURCE = r"""
 #include <errno.h>

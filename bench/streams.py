@@ -16,6 +16,8 @@ import sys
 import termios
 import time
 
+import commands
+
 TOP = os.path.dirname(os.path.dirname(os.path.abspath(__file__)))
 sys.path.insert(0, os.path.join(TOP, "neighbours"))
 from om import pieces
@@ -35,8 +37,7 @@ BLOCKS = [
 ]
 LINES = [b"", b" \t\r", b"# a remark", b"\t# end", b"end", b" end\t# all", b"end end", b"ends", b"om", b"om 2",
          b" om # 1", b"omen", b"om 1 1", b"x om", b"+-", b"\x00", b"en"]
-COMMANDS = [["accept"], ["check"], ["upgrade"], ["dual"], ["convert", "covectors"], ["member", "++-+"], ["threeterm"],
-            ["contract", "1"]]
+COMMANDS = commands.that_read()
 
 
 def stream(chance):

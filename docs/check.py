@@ -5,8 +5,9 @@ Looks up what the pages name: each link, each file, and each crate, call and def
 A name is looked up in the sources of the repository; a file from the top, from the folder of the page, or by its name
 alone. Then it asks for the size of README, for the form and the size of the entries of docs/DECISIONS.md, and whether
 what is made stands as it is made now: the crates and layers of docs/ARCHITECTURE.md and the counts of CONTRIBUTING.md
-(layers.py), the picture (picture.py), and docs/INDEX.md (index.py). Last it asks whether each function that no crate shows is called
-(uncalled.py). The last line is 'pages: N passed, M failed', and the exit code is 1 if one failed.
+(layers.py), the picture (picture.py), and docs/INDEX.md (index.py). Last it asks whether each function that no crate
+shows is called (uncalled.py), and whether each must-fail edit can be applied (bench/edits.py). The last line is
+'pages: N passed, M failed', and the exit code is 1 if one failed.
 """
 import os
 import re
@@ -19,6 +20,8 @@ import picture
 import uncalled
 
 TOP = os.path.dirname(os.path.dirname(os.path.abspath(__file__)))
+sys.path.insert(0, os.path.join(TOP, "bench"))
+import edits
 SOURCES = (".rt", ".antt", ".py", ".sh", ".txt", ".awk", ".bash", ".v", ".edit", ".1", "")
 FILE = re.compile(r"[\w.+*-]*/[\w./+*-]*|[\w+-]+\.(?:md|om|py|rt|antt|txt|sh|v|claims|bash|1|edit|cff|gz)")
 NAME = re.compile(r"(?:[A-Za-z_]\w*::)*[A-Za-z_]\w*")
@@ -134,6 +137,11 @@ def main():
     failed += len(left)
     for path, name in left:
         print("%s: nothing calls `%s`" % (path, name))
+    stale = list(edits.stale(edits.every()))
+    passed += not stale
+    failed += len(stale)
+    for path, old in stale:
+        print("%s replaces what isn't there once: %s" % (path, old))
     print("pages: %d passed, %d failed" % (passed, failed))
     return 1 if failed or not passed else 0
 

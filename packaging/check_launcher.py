@@ -228,7 +228,7 @@ def completes():
                "source completions/om.bash" + ready)
     rows = [("om dec\t", "om decide "), ("om decide --box=\t", "--box=6"), ("om decide --st\t", "--steps="),
             ("om flip 18 \t", "19"), ("om accept < examples/pappus-po\t", "examples/pappus-points.om"),
-            ("om-each upg\t", "om-each upgrade "), ("om-classes uni\t", "om-classes uniform "),
+            ("om-each thr\t", "om-each threeterm "), ("om-classes uni\t", "om-classes uniform "),
             ("om-classes all --co\t", "om-classes all --complete ")]
     for shell, setup in ((["bash", "--norc", "--noprofile", "-i"], bash), (["zsh", "-f", "-i"], zsh),
                          (["zsh", "-f", "-i"], as_bash)):
