@@ -13,7 +13,7 @@ ghost use Rattle.om_chirotope.specs.Chirotope.{HasOrthogonalPairs};
 ghost use Rattle.om_chirotope.specs.ThreeTerm.{HasThreeTermRelations};
 ghost use Rattle.om_chirotope.specs.Pictures.{AreLong, AreRowsBelow, HasRelationsAt, IsLive, IsTriple};
 
-use super::cocircuit_table::{FEW, ROOM, cocircuit_at, fill};
+use super::cocircuit_table::{FEW, MANY, ROOM, cocircuit_at, fill};
 use super::exchange::has_list_exchange;
 use super::walking::places_with;
 use super::whole_map::WholeMap;
@@ -61,33 +61,26 @@ pub fn has_three_term_relations(raw: &RawMap) -> bool
     if count > ROOM {
         return has_relations(map, &[]);
     }
-    if count > FEW {
-        return has_relations_with_room(map);
+    if count > MANY {
+        return has_relations_with_table::<ROOM>(map);
     }
-    let mut few = [SignVec::zero(raw.elements); FEW];
-    let cocircuits = &mut few[..count];
-    has_relations_by(map, cocircuits)
+    if count > FEW {
+        return has_relations_with_table::<MANY>(map);
+    }
+    has_relations_with_table::<FEW>(map)
 }
 
-/// `has_three_term_relations`, with a table that has room for the vectors U of each map of a document. It is never
-/// inlined, so that small maps don't pay for this table.
+/// `has_three_term_relations`, with a table that has room for so many vectors U. It is never inlined, so that small
+/// maps don't pay for the tables of large ones.
 #[inline(never)]
-fn has_relations_with_room(map: &WholeMap) -> bool
+fn has_relations_with_table<const SIZE: usize>(map: &WholeMap) -> bool
     requires rank_low { 1 ≤ map.now.rank }
-    requires fits { choose map.now.elements (map.now.rank - 1) ≤ ROOM }
+    requires fits { choose map.now.elements (map.now.rank - 1) ≤ SIZE }
+    requires small { SIZE ≤ ROOM }
     ensures { IsTrue result ↔ HasThreeTermRelations map.now }
 {
-    let mut table = [SignVec::zero(map.raw.elements); ROOM];
+    let mut table = [SignVec::zero(map.raw.elements); SIZE];
     let cocircuits = &mut table[..Subset::choose(map.raw.elements, map.raw.rank - 1) as usize];
-    has_relations_by(map, cocircuits)
-}
-
-/// `has_three_term_relations`, with a given table for the vectors U.
-fn has_relations_by(map: &WholeMap, cocircuits: &mut [SignVec]) -> bool
-    requires rank_low { 1 ≤ map.now.rank }
-    requires room { length cocircuits.old ≡ choose map.now.elements (map.now.rank - 1) }
-    ensures { IsTrue result ↔ HasThreeTermRelations map.now }
-{
     fill(map, cocircuits);
     has_relations(map, cocircuits)
 }
