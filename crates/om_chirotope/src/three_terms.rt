@@ -1,11 +1,11 @@
 //! The three-term test: a fast way to see that all pairs of sign vectors are orthogonal.
 
-ghost use Rattle.std.specs.Prelude.{ℕ, ◌≡◌, ◌+◌, ◌-◌, ◌<◌, ◌≤◌, ◌^◌, ◌↔◌, ◌∷◌, ◌++◌, length, replicate, take, IsTrue};
+ghost use Rattle.std.specs.Prelude.{ℕ, ◌≡◌, ◌+◌, ◌-◌, ◌<◌, ◌≤◌, ◌^◌, ◌↔◌, ◌∷◌, ◌++◌, length, replicate, take, IsTrue, map};
 ghost use Rattle.std.specs.Prelude.{[]};
 ghost use Rattle.std.specs.Int.{bit_at};
 ghost use Rattle.std.proofs.Math.ListN.{get_or};
 ghost use Rattle.om_signs.specs.Sign.{opposite, product};
-ghost use Rattle.om_signs.specs.SignVec.{at, at_element, IsMaskOf};
+ghost use Rattle.om_signs.specs.SignVec.{at, at_element, IsMaskOf, IsPlus, IsMinus};
 ghost use Rattle.om_subsets.specs.Subsets.{choose, rank_of, IsMember, IsSubsetFrom, with_element};
 ghost use Rattle.om_laws.specs.ThreeTerm.{AreBalanced};
 ghost use Rattle.om_chirotope.specs.Map.{map_of, cocircuit_vector, cocircuit_vectors};
@@ -245,19 +245,19 @@ pub fn are_balanced(first: SignVec, second: SignVec, third: SignVec, y: u8, z: u
     let u = scaled(first.get(y), third);
     let v = scaled(first.get(z).neg(), second);
     let w = scaled(second.get(z), first);
-    let plus = u.plus() | v.plus() | w.plus();
-    let minus = u.minus() | v.minus() | w.minus();
-    plus == minus
+    u.0 | v.0 | w.0 == u.1 | v.1 | w.1
 }
 
-/// The vector with each sign multiplied by s.
-fn scaled(s: Sign, vector: SignVec) -> SignVec
-    ensures len { length result ≡ length vector }
-    ensures signs { (i : ℕ) → i < length vector → at result i ≡ product s (at vector i) }
+/// The masks of the pluses and of the minuses of the vector with each sign multiplied by s. It has no branch, since
+/// nobody foresees which way it would go.
+fn scaled(s: Sign, vector: SignVec) -> (u32, u32)
+    ensures plus { IsMaskOf (length vector) (IsPlus (map (product s) vector)) result.0 }
+    ensures minus { IsMaskOf (length vector) (IsMinus (map (product s) vector)) result.1 }
 {
-    match s {
-        Sign::Plus => vector,
-        Sign::Zero => SignVec::zero(vector.len()),
-        Sign::Minus => vector.neg(),
-    }
+    let same = s.plus_bit();
+    let turned = s.minus_bit();
+    (
+        same * vector.plus() + turned * vector.minus(),
+        same * vector.minus() + turned * vector.plus(),
+    )
 }
