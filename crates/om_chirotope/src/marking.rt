@@ -70,8 +70,8 @@ fn clear(words: &mut [u64])
     ensures room { length words.new ≡ length words.old }
     ensures clear { (i : ℕ) → get_or words.new i 0 ≡ 0 }
 {
-    for i in 0..words.len() {
-        words[i] = 0;
+    for word in words.iter_mut() {
+        *word = 0;
     }
 }
 
@@ -133,8 +133,8 @@ fn spread_within(words: &mut [u64], e: u8)
     requires { e < PLACE_BITS }
     ensures { IsSpread words.old words.new e }
 {
-    for i in 0..words.len() {
-        words[i] = spread_in(words[i], e);
+    for word in words.iter_mut() {
+        *word = spread_in(*word, e);
     }
 }
 
