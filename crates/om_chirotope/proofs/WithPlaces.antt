@@ -69,7 +69,8 @@ in_step n xs e m left passed later head (y ∷ ys) k w = go w.list
               end = omega (arith, end);
               list = h;
               size = omega (arith, s);
-              here = after (length ys) left s (rank_from (e + 1) m ys) (sym (ap (λ k. head + k + later) (step ys)) ∙ w.here);
+              here = after (length ys) left s (rank_from (e + 1) m ys) (sym (ap (λ k. head + k + later) (step ys))
+                  ∙ w.here);
               same = λ f l. (
                 λ i. tail f l ((w.same f (omega (arith, l))).0 i),
                 λ i. (w.same f (omega (arith, l))).1 (inr i),

@@ -1,7 +1,7 @@
 //! The three-term test: a fast way to see that all pairs of sign vectors are orthogonal.
 
-ghost use Rattle.std.specs.Prelude.{ℕ, ◌≡◌, ◌+◌, ◌-◌, ◌<◌, ◌≤◌, ◌^◌, ◌↔◌, ◌∷◌, ◌++◌, length, replicate, take, IsTrue, map};
-ghost use Rattle.std.specs.Prelude.{[]};
+ghost use Rattle.std.specs.Prelude.{ℕ, ◌≡◌, ◌+◌, ◌-◌, ◌<◌, ◌≤◌, ◌^◌, ◌↔◌, ◌∷◌, ◌++◌, length, replicate, take, IsTrue};
+ghost use Rattle.std.specs.Prelude.{[], map};
 ghost use Rattle.std.specs.Int.{bit_at};
 ghost use Rattle.std.proofs.Math.ListN.{get_or};
 ghost use Rattle.om_signs.specs.Sign.{opposite, product};

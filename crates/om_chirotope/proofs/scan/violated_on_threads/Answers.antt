@@ -41,7 +41,8 @@ violated_with_table_on_threads-requires g c =
     let fits = counted_within c.choose-count.ensures.value c.if-count-gt-ROOM.false in
     (c.type_bounds.sync-R, (low, (high, (fits, search rules))))
 
-pub violated_with_table_on_threads-requires-then-count-gt-FEW : goal.violated_with_table_on_threads-requires-then-count-gt-FEW
+pub violated_with_table_on_threads-requires-then-count-gt-FEW :
+    goal.violated_with_table_on_threads-requires-then-count-gt-FEW
 violated_with_table_on_threads-requires-then-count-gt-FEW g c =
     let low = some_rank c.args.raw.now.rank c.if-raw-eq0.false in
     let high = rank_below c.args.raw.now.rank c.args.raw.now.elements c.requires.rank c.if-raw.false in
