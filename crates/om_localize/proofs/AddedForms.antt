@@ -2,7 +2,7 @@
 --
 -- Main results: no_point, four_forms
 use Rattle.std.proofs.Common.{ℕ, ◌≡◌, ◌≢◌, ◌+◌, ◌-◌, ◌*◌, ◌≤◌, ◌⊎◌, ◌↔◌, List, map, refl, sym, ◌∙◌, ⊎_elim, arith, inl}
-use Rattle.std.proofs.Common.{inr, ◌<◌, subst}
+use Rattle.std.proofs.Common.{inr, subst}
 use Rattle.om_signs.specs.declared.sign.Sign.{Sign}
 use Rattle.om_signs.specs.declared.sign.Sign.TheVariants.{Minus, Zero, Plus}
 use Rattle.om_signs.specs.Sign.{opposite, product, first_nonzero}
