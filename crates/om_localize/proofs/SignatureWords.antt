@@ -1,7 +1,8 @@
 -- Signatures in their six words: the words of a number, and the sign that the bits of a place stand for.
 --
--- Main definitions: AreWords, AreSound, Stands
--- Main results: sound_of, top_word, bit_of_plus, bit_of_rest, length_in, few_in, plus_sign, minus_sign, no_sign, sign_in
+-- Main definitions: AreSound, Stands
+-- Main results: sound_of, top_word, bit_of_plus, bit_of_rest, length_in, few_in, plus_sign, minus_sign, no_sign,
+-- sign_in
 use Rattle.std.proofs.Common.{ℕ, ◌≡◌, ◌+◌, ◌-◌, ◌*◌, ◌/◌, ◌%◌, ◌<◌, ◌≤◌, ◌^◌, ◌∙◌, zero, suc, sym, ap, refl, inl, inr}
 use Rattle.std.proofs.Common.{subst}
 use Rattle.std.proofs.Common.{arith, List, [], ◌∷◌, ◌++◌, length, set, get_or}
@@ -21,6 +22,7 @@ use Rattle.om_signs.specs.Masks.{is_minus-lt, length-signs_of, get_or-signs_of}
 use Rattle.om_signs.proofs.Views.{sign_of_is}
 use Rattle.om_localize.specs.declared.signature.TheConstants.{MAX_PAIRS, STEP}
 use Rattle.om_localize.specs.Signatures.{joined, words_of, unit, signs_in, AreSignatureWords}
+use Rattle.om_localize.proofs.ThreeWords.{AreWords, words_back, joined_words, words_are}
 
 -- ---- the masks of a list
 
@@ -49,42 +51,6 @@ masks_stand xs = sym (fill_by_all (sign_at (plus_mask xs) (minus_mask xs)) xs (l
         (sym (sign_of_is (get_or xs i Zero)))
 
 -- ---- the words of a number
-
--- three words
-pub record AreWords (ws : List ℕ) : Type 0 where
-  pub three : length ws ≡ 3
-  pub first_fits : get_or ws 0 0 < 2 ^ 64
-  pub second_fits : get_or ws 1 0 < 2 ^ 64
-
-words_joined : (a b c m : ℕ) → a < 2 ^ 64 → b < 2 ^ 64 → m ≡ c * 2 ^ 128 + (b * 2 ^ 64 + a)
-    → words_of m ≡ a ∷ b ∷ c ∷ []
-words_joined a b c m f s e = rw (low, middle, high) refl
-  where
-    regrouped : m ≡ (c * 2 ^ 64 + b) * 2 ^ 64 + a
-    regrouped = omega arith
-
-    low : m % 2 ^ 64 ≡ a
-    low = rw regrouped (mod-mul-add (c * 2 ^ 64 + b) (2 ^ 64) a f)
-
-    middle : m / 2 ^ 64 % 2 ^ 64 ≡ b
-    middle = ap (λ k. k % 2 ^ 64) (rw regrouped (div-mul-add (c * 2 ^ 64 + b) (2 ^ 64) a f))
-        ∙ mod-mul-add c (2 ^ 64) b s
-
-    high : m / 2 ^ 128 ≡ c
-    high = rw e (div-mul-add c (2 ^ 128) (b * 2 ^ 64 + a) (omega arith))
-
-words_back : (ws : List ℕ) → AreWords ws → words_of (joined ws) ≡ ws
-words_back [] h = let l = h.three in absurd (omega arith)
-words_back (a ∷ []) h = let l = h.three in absurd (omega arith)
-words_back (a ∷ b ∷ []) h = let l = h.three in absurd (omega arith)
-words_back (a ∷ b ∷ c ∷ []) h = words_joined a b c (c * 2 ^ 128 + (b * 2 ^ 64 + a)) h.first_fits h.second_fits refl
-words_back (a ∷ b ∷ c ∷ d ∷ ds) h = let l = h.three in absurd (omega arith)
-
-joined_words : (m : ℕ) → joined (words_of m) ≡ m
-joined_words m = omega arith
-
-words_are : (m : ℕ) → AreWords (words_of m)
-words_are m = record { three = refl; first_fits = omega arith; second_fits = omega arith }
 
 -- what the words of signs are, part by part
 pub record AreSound (plus rest : List ℕ) : Type 0 where
@@ -300,9 +266,12 @@ pub sign_in : (plus rest : List ℕ) (i : ℕ) (xs : List Sign) → AreSignature
     → i < length xs
     → sign_of (get_or plus (i / 64) 0 / 2 ^ (i % 64) % 2) (get_or rest (i / 64) 0 / 2 ^ (i % 64) % 2) ≡ get_or xs i Zero
 sign_in plus rest i xs h e lt =
-    rw (bit_of_plus plus i (sound_of plus rest h).plus_words few, bit_of_rest rest i (sound_of plus rest h).rest_words few)
+    rw (bit_of_plus plus i sound.plus_words few, bit_of_rest rest i sound.rest_words few)
     (sym (get_or-signs_of (joined plus) (joined rest % unit) (joined rest / unit) i (rw (length_in plus rest xs e) lt))
     ∙ ap (λ ys. get_or ys i Zero) e)
   where
+    sound : AreSound plus rest
+    sound = sound_of plus rest h
+
     few : i < MAX_PAIRS
     few = let f = few_in plus rest xs h e in omega arith
