@@ -22,7 +22,8 @@ placed c =
     (turn_triple c.args.chi.now c.args.weights.now _ w c.requires.brackets (turn c.before.before.before.before)) in
     c.rank.ensures.value ∙ ap (λ n. rank_of n c.triple-bracket.result.elements)
     (c.triple-bracket.ensures.n ∙ c.elements.ensures.value)
-    ∙ ap (rank_of c.args.chi.now.elements) (c.triple-bracket.ensures.elements ∙ increasing_triple w.a w.b w.c t.a_b t.b_c)
+    ∙ ap (rank_of c.args.chi.now.elements) (c.triple-bracket.ensures.elements
+    ∙ increasing_triple w.a w.b w.c t.a_b t.b_c)
 
 pub triple-bracket-requires : goal.triple-bracket-requires
 triple-bracket-requires c =
