@@ -47,10 +47,8 @@ loop-bracket-preserved c = (
 pub bracket_weight-requires : goal.bracket_weight-requires
 bracket_weight-requires c =
     let turn =
-    YieldsList-turn
-    (YieldsList-at c.into_iter-bracket-iterator.ensures.into_iter_gives
-    (YieldsList-from_zip
-    (YieldsList-at c.zip-bracket-items.ensures.first
+    YieldsList-turn (YieldsList-at c.into_iter-bracket-iterator.ensures.into_iter_gives
+    (YieldsList-from_zip (YieldsList-at c.zip-bracket-items.ensures.first
     (YieldsList-from_filter _ (λ b. is_nonzero (chi_of c.args.chi.now b.elements))
     (gives_all_sets c.args.chi.now.elements 3
     (all_sets_of {r = 3} {q = 3} (c.filter-nonzero.ensures.source ∙ c.all.ensures.sets) c.elements.ensures.value refl))
@@ -66,10 +64,8 @@ bracket_weight-requires c =
 pub returns : goal.returns
 returns c =
     let end =
-    YieldsList-end
-    (YieldsList-at c.into_iter-bracket-iterator.ensures.into_iter_gives
-    (YieldsList-from_zip
-    (YieldsList-at c.zip-bracket-items.ensures.first
+    YieldsList-end (YieldsList-at c.into_iter-bracket-iterator.ensures.into_iter_gives
+    (YieldsList-from_zip (YieldsList-at c.zip-bracket-items.ensures.first
     (YieldsList-from_filter _ (λ b. is_nonzero (chi_of c.args.chi.now b))
     (gives_all_subsets c.args.chi.now.elements 3
     (all_sets_of {r = 3} {q = 3} (c.filter-nonzero.ensures.source ∙ c.all.ensures.sets) c.elements.ensures.value refl))
