@@ -10,7 +10,7 @@ use om_chirotope::Chirotope;
 use om_circuits::Cocircuits;
 use om_convert::{chirotope_to_cocircuits, chirotope_to_covectors};
 use om_covectors::Covectors;
-use om_mutate::{MutationError, mutations};
+use om_mutate::mutations;
 use om_signs::{MAX_ELEMENTS, NoMemory};
 use std::alloc::Global;
 
@@ -62,7 +62,6 @@ pub fn count_mutations(alloc: Global, chi: &Chirotope) -> Result<u32, NoMemory>
     match mutations(alloc, chi) {
         Ok(sets) => Ok(sets.len() as u32),
         // the rank is 3
-        Err(MutationError::NotRank3 { .. }) => unreachable!(),
-        Err(MutationError::Memory) => Err(NoMemory),
+        Err(error) => Err(error.memory_alone()),
     }
 }
