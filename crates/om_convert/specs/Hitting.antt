@@ -39,9 +39,9 @@ abbrev pub IsNarrowed : (List Sign → Type 0) → List ℕ → ℕ → List ℕ
 IsNarrowed P s e t = ((t ≡ without_element e s) × MeetsFamily P t) ⊎ ((t ≡ s) × MissesOne P (without_element e s))
 
 -- a minimal set that meets every vector of a family: without any of its elements it misses some vector
-pub record IsLeastMeeting (P : List Sign → Type 0) (s : List ℕ) : Type 0 where
+pub record IsMinimalMeeting (P : List Sign → Type 0) (s : List ℕ) : Type 0 where
   pub each : MeetsFamily P s
-  pub least : (e : ℕ) → IsMember e s → MissesOne P (without_element e s)
+  pub minimal : (e : ℕ) → IsMember e s → MissesOne P (without_element e s)
 
 -- a chirotope on n elements with these cocircuits, whose first nonzero sign is plus
 pub record IsNormalOf (n : ℕ) (members : List (List Sign)) (m : SignMap) : Type 0 where
