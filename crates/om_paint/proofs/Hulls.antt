@@ -212,7 +212,8 @@ module _ (m : SignMap) (chirotope : IsChirotope m) where
   -- what stands at place 0 of the first circuits, whatever is read past the end, for `hull`
   pub positive_at : (firsts : List (Option (List Sign))) → length firsts ≡ CLASSES
       → ((i : ℕ) → i < CLASSES → IsFirstIfAny (λ X. IsCircuitOfChirotope m X × HasMinusAloneAt i X)
-      (get_or firsts i None)) → (d o : Option (List Sign)) → get_or firsts 0 d ≡ o → IsFirstIfAny (IsPositiveCircuit m) o
+      (get_or firsts i None)) → (d o : Option (List Sign)) → get_or firsts 0 d ≡ o
+      → IsFirstIfAny (IsPositiveCircuit m) o
   positive_at firsts size are d o is =
       positive_first o
       (placed (λ i X. IsCircuitOfChirotope m X × HasMinusAloneAt i X) firsts 0 size (omega arith) are d o is)
