@@ -4,7 +4,8 @@ use Rattle.om_make.proofs.CountLaws.{few_cocircuits}
 use Rattle.om_make.proofs.listing.list_cocircuits.Goals as goal
 
 pub memory_alone-requires : goal.memory_alone-requires
-memory_alone-requires c = memory_within_limit (IsCocircuitOfChirotope c.args.chi.now) c.in-Err.error c.in-Err.ensures.many
+memory_alone-requires c =
+    memory_within_limit (IsCocircuitOfChirotope c.args.chi.now) c.in-Err.error c.in-Err.ensures.many
     (few_cocircuits c.args.chi.now c.requires c.chirotope_to_cocircuits.ensures.high)
 
 pub returns-in-Ok-clause-list : goal.returns-in-Ok-clause-list
