@@ -55,7 +55,8 @@ pub record AreSeen (m : SignMap) (e f k : ℕ) (first second : Bool) : Type 0 wh
 
 -- the same after one set more, which no basis with both elements is, for `parallel`
 pub seen_next : (m : SignMap) (e f : ℕ) (xs : List Chosen) (b : Chosen) (first second here there : Bool)
-    → b.elements ≡ subset_at m.elements m.rank (length xs) → IsTrue here ↔ (IsBasis m b.elements × IsMember e b.elements)
+    → b.elements ≡ subset_at m.elements m.rank (length xs)
+    → IsTrue here ↔ (IsBasis m b.elements × IsMember e b.elements)
     → IsTrue there ↔ (IsBasis m b.elements × IsMember f b.elements) → (IsTrue here → IsTrue there → e ≡ f)
     → AreSeen m e f (length xs) first second
     → AreSeen m e f (length (xs ++ b ∷ [])) (first || here) (second || there)

@@ -34,5 +34,6 @@ pub returns-clause-lawful : goal.returns-clause-lawful
 returns-clause-lawful c = c.loop-e.invariant.lawful
 
 pub returns-clause-minimal : goal.returns-clause-minimal
-returns-clause-minimal c = narrowed_minimal c.args.elements (IsNonzeroMember c.args.vectors.now) c.loop-e.e c.loop-e.set.n
+returns-clause-minimal c =
+    narrowed_minimal c.args.elements (IsNonzeroMember c.args.vectors.now) c.loop-e.e c.loop-e.set.n
     c.loop-e.set.elements c.loop-e-test.false c.loop-e.invariant
