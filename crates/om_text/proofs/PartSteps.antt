@@ -2,10 +2,10 @@
 --
 -- Main definitions: list_with_line
 -- Main results: memory_out, point_unread, point_beyond, point_added, word_refused, block_added, list_step,
--- signs_counted, no_signs_counted, no_values_read, values_beyond, values_added, still_refused, names_taken, no_names_taken, name_refused, all_names, names_missing, closed,
--- not_closed
-use Rattle.std.proofs.Common.{◌≡◌, ℕ, ◌+◌, ◌<◌, ◌≤◌, List, [], ◌∷◌, ◌++◌, Bool, true, false, cond, length, refl, sym, ap}
-use Rattle.std.proofs.Common.{subst, ◌∙◌, append_assoc, append-nil, arith, inl, inr}
+-- signs_counted, no_signs_counted, no_values_read, values_beyond, values_added, still_refused, names_taken,
+-- no_names_taken, name_refused, all_names, names_missing, closed, not_closed
+use Rattle.std.proofs.Common.{◌≡◌, ℕ, ◌+◌, ◌<◌, ◌≤◌, List, [], ◌∷◌, ◌++◌, Bool, true, false, cond, length, refl}
+use Rattle.std.proofs.Common.{sym, ap, subst, ◌∙◌, append_assoc, append-nil, arith, inl, inr}
 use Rattle.std.specs.Prelude.{ℤ, Option, Some, None, Result, Ok, Err, IsOkAnd, IsErrAnd, MatchResult, nat_eq, nat_le}
 use Rattle.std.specs.Prelude.{◌&&◌, ◌≢◌}
 use Rattle.std.specs.Result.{result_map_both}
