@@ -3,7 +3,7 @@
 -- Main definitions: AreSeedBefore
 -- Main results: set_read, set_fault, set_passed, budgets_same, seed_read, seed_missing, seed_bad, seed_fault,
 -- seed_passed
-use Rattle.std.specs.Prelude.{ℕ, ◌≡◌, ◌↔◌, ◌<◌, ◌+◌, List, [], ◌∷◌, ◌++◌, length, map, Some, None, Result, Ok, Err}
+use Rattle.std.specs.Prelude.{ℕ, ◌≡◌, ◌↔◌, ◌<◌, ◌+◌, List, [], ◌∷◌, length, map, Some, None, Result, Ok, Err}
 use Rattle.std.specs.Prelude.{IfErr, IsErrAnd, codes, refl}
 use Rattle.std.proofs.Common.{arith, ap, subst, sym, ◌∙◌}
 use Rattle.std.proofs.lemmas.Option.{same_Some}
