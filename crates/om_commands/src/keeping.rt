@@ -91,11 +91,7 @@ fn keep_given<R: Threads + Sync>(
 }
 
 /// The document of a wiring with these names, if its blocks satisfy the axioms. The wiring may be flat.
-fn keep_wiring(
-    elements: u8,
-    blocks: List<Block>,
-    names: List<Name>,
-) -> Result<Document, Unkept>
+fn keep_wiring(elements: u8, blocks: List<Block>, names: List<Name>) -> Result<Document, Unkept>
     requires low { 1 ≤ elements }
     requires high { elements ≤ MAX_ELEMENTS }
     requires blocks { AreBlocks blocks }

@@ -7,7 +7,6 @@ pub mod PlanLaws
 pub mod ReplyLaws
 mod ValidClaimLaws
 pub mod Chaining
-pub mod Endings
 pub mod Readings
 pub mod Runs
 pub mod Shortened

@@ -9,11 +9,11 @@ use Rattle.om_reply.specs.declared.status.Status.TheVariants as status
 use Rattle.om_program.specs.Meaning.{TaskMeans}
 use Rattle.om_pieces.specs.Making.{nothing}
 use Rattle.om_words.specs.ReadingCommands.{wanted_ends}
-use Rattle.om_program.proofs.Endings.{takes_none, rose_before}
+use Rattle.om_port.proofs.Taking.{takes_none, rose_before, all_taken, taken_more, taken_still, none_taken}
 use Rattle.om_program.proofs.Steps.{answered_replied}
 use Rattle.om_program.proofs.Readings.{starts, reach_further, reach_stops, reach_stops_later, reach_breaks_later}
-use Rattle.om_program.proofs.Readings.{reach_end, reach_end_stops, reach_end_breaks, all_taken, taken_more, taken_still}
-use Rattle.om_program.proofs.Readings.{keeps_up_start, keeps_up_further, keeps_up_at_fault, none_taken, no_first}
+use Rattle.om_program.proofs.Readings.{reach_end, reach_end_stops, reach_end_breaks}
+use Rattle.om_program.proofs.Readings.{keeps_up_start, keeps_up_further, keeps_up_at_fault, no_first}
 use Rattle.om_port.proofs.Known.{taken_at_least}
 use Rattle.om_program.proofs.FaultLaws.{no_memory_ne_usage, no_memory_ne_read_fault, no_memory_ne_write_fault}
 use Rattle.om_program.proofs.FaultLaws.{read_fault_ne_usage, read_fault_ne_write_fault}

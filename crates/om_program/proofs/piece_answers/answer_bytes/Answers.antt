@@ -8,8 +8,8 @@ use Rattle.om_reply.specs.declared.status.Status.TheVariants as status
 use Rattle.om_reply.specs.Statuses.{IsReplied}
 use Rattle.om_pieces.specs.Making.{completed, made}
 use Rattle.om_program.proofs.Chaining.{nothing_yet}
-use Rattle.om_program.proofs.Endings.{replied_not, rose_before}
-use Rattle.om_program.proofs.Steps.{answered_replied, loop_goes, loop_stops, loop_breaks, loop_ends}
+use Rattle.om_port.proofs.Taking.{rose_before}
+use Rattle.om_program.proofs.Steps.{replied_not, answered_replied, loop_goes, loop_stops, loop_breaks, loop_ends}
 use Rattle.om_program.proofs.piece_answers.answer_bytes.Goals as goal
 
 pub loop-byte-init : goal.loop-byte-init

@@ -11,7 +11,7 @@ use Rattle.om_program.proofs.CompletenessLaws.{alone_ends, always_answered}
 use Rattle.om_plane.proofs.EvidenceLaws.{evidence_decides}
 use Rattle.om_program.specs.Meaning.{Means}
 use Rattle.om_program.specs.Run.{ReadNothing}
-use Rattle.om_program.proofs.Endings.{takes_none}
+use Rattle.om_port.proofs.Taking.{takes_none}
 use Rattle.om_program.proofs.MeaningLaws.{whole, cut_off, named_answer, named_cut_off, usage_meant}
 use Rattle.om_program.proofs.OneAnswer.{words_determined}
 use Rattle.om_program.proofs.ValidClaimLaws.{verdicts_found_valid, limits_found}
