@@ -91,7 +91,9 @@ refused_values list m count why_of.Memory is values number = cc
 -- there is no extension for want of memory, if there is room and there aren't too many values: for `memory_alone`
 pub memory_is_cause : (elements : ℕ) (why : LexError) → IsFull why ↔ (elements ≡ MAX_ELEMENTS) → elements < MAX_ELEMENTS
     → ((count : ℕ) → why ≡ why_of.Values count → ⊥) → why ≡ why_of.Memory
-memory_is_cause elements (why_of.Full n) full few other = let at_limit = full.0 tt in absurd (omega (arith, at_limit, few))
+memory_is_cause elements (why_of.Full n) full few other =
+    let at_limit = full.0 tt in
+    absurd (omega (arith, at_limit, few))
 memory_is_cause elements (why_of.Values count) full few other = absurd (other count refl)
 memory_is_cause elements why_of.Memory full few other = refl
 
