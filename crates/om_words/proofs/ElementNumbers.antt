@@ -39,14 +39,16 @@ one_element word e f a b = same_number e f a.high b.high (sym a.digits ∙ b.dig
 one_digit : (word : List ℕ) → (nat_eq (length word) 1 || not (begins_with 48 word)) ≡ true → get_or word 0 0 ≡ 48
     → length word ≡ 1
 one_digit [] h zero = absurd (omega (arith, zero))
-one_digit (b ∷ bs) h zero = eqb-true (length (b ∷ bs)) 1 (left (nat_eq (length (b ∷ bs)) 1) (rw (eq-eqb b 48 zero) at h))
+one_digit (b ∷ bs) h zero =
+    eqb-true (length (b ∷ bs)) 1 (left (nat_eq (length (b ∷ bs)) 1) (rw (eq-eqb b 48 zero) at h))
   where
     left : (x : Bool) → (x || false) ≡ true → x ≡ true
     left true h = refl
     left false h = h
 
 -- the number that decimal digits spell is printed as these digits
-digits_back : (word : List ℕ) → is_decimal word ≡ true → number_from 0 word < 2 ^ 64 → decimal (number_from 0 word) ≡ word
+digits_back : (word : List ℕ) → is_decimal word ≡ true → number_from 0 word < 2 ^ 64
+    → decimal (number_from 0 word) ≡ word
 digits_back word is small =
     let parts = and_parts (list_all is_digit word && nat_le 1 (length word))
     (nat_eq (length word) 1 || not (begins_with 48 word)) is in

@@ -153,21 +153,23 @@ fault_named v u words result e passed same read is err =
     rw same (err_passed v (IsReadAs v) (task_of v) words result e passed (shape v) read is err)
 
 -- both at once, where the task is made by `map`
-pub named : (v u : Verb) (words : List (List ℕ)) (result : Result (Value v) Usage) (made : Result Task Usage) → u ≡ v
-    → IsRead (IsReadAs v) words result
+pub named : (v : Verb) {u : Verb} {words : List (List ℕ)} {result : Result (Value v) Usage} {made : Result Task Usage}
+    → u ≡ v → IsRead (IsReadAs v) words result
     → MatchResult result (λ a. IsOkAnd made (λ t. t ≡ task_of v a)) (λ e. made ≡ Err e) → AreNamed u words made
-named v u words (Ok a) (Ok t) same read is = rw is (task_named v u words (Ok a) a same read refl)
-named v u words (Ok a) (Err e) same read is = absurd is
-named v u words (Err e) made same read is = rw is (fault_named v u words (Err e) e (Err e) same read refl refl)
+named v {u} {words} {result = Ok a} {made = Ok t} same read is = rw is (task_named v u words (Ok a) a same read refl)
+named v {u} {words} {result = Ok a} {made = Err e} same read is = absurd is
+named v {u} {words} {result = Err e} {made = made} same read is =
+    rw is (fault_named v u words (Err e) e (Err e) same read refl refl)
 
 -- the words behind a verb without words name its task, or the word at fault
-pub bare_named : (v u : Verb) (task : Task) (words : List (List ℕ)) (made : Result Task Usage) → u ≡ v
+pub bare_named : {v u : Verb} (task : Task) {words : List (List ℕ)} {made : Result Task Usage} → u ≡ v
     → IsShape v AreNone (λ _. task) → IsRead (IsBare task) words made → AreNamed u words made
-bare_named v u task words (Ok t) same shape read =
+bare_named {v} {u} task {words} {made = Ok t} same shape read =
     let is = (read.value t).0 refl in
     rw (same, is.1) (ok_named v AreNone (λ _. task) words (Ok tt) tt shape
     (record { value = λ a. (λ _. is.0, λ _. refl); fault = tt }) refl)
-bare_named v u task words (Err e) same shape read = rw same (err_named v AreNone (λ _. task) words (Err e) e shape none refl)
+bare_named {v} {u} task {words} {made = Err e} same shape read =
+    rw same (err_named v AreNone (λ _. task) words (Err e) e shape none refl)
   where
     none : IsRead AreNone words (Err e)
     none = record {
@@ -175,7 +177,10 @@ bare_named v u task words (Err e) same shape read = rw same (err_named v AreNone
         λ made. absurd (no_value e a made),
         λ h. absurd (no_value e task ((read.value task).1 (h, refl))),
       );
-      fault = (read.fault.0, (read.fault.1.0, fault_of (HasValue (IsBare task)) (HasValue AreNone) bare read.fault.1.1));
+      fault = (
+        read.fault.0,
+        (read.fault.1.0, fault_of (HasValue (IsBare task)) (HasValue AreNone) bare read.fault.1.1),
+      );
     }
       where
         bare : (ws : List (List ℕ)) → HasValue (IsBare task) ws ↔ HasValue AreNone ws

@@ -2,8 +2,8 @@
 -- verb.
 --
 -- Main definitions: tail_of, first_of, IsShape, IsValued
--- Main results: fault_behind, fault_of, empty_begins, no_words_at_fault, no_words_named, first_named, first_at_fault, ok_named,
--- err_named, err_passed, first_and_rest
+-- Main results: fault_behind, fault_of, empty_begins, no_words_at_fault, no_words_named, first_named, first_at_fault,
+-- ok_named, err_named, err_passed, first_and_rest
 use Rattle.std.specs.Prelude.{ℕ, ◌≡◌, ◌<◌, ◌≤◌, ◌+◌, length, map, List, [], ◌∷◌, ◌++◌, codes, refl, ◌↔◌, Result, Ok}
 use Rattle.std.specs.Prelude.{Err, IfErr, IsErrAnd}
 use Rattle.std.proofs.Common.{get_or, drop, take, ◌-◌, arith, ap, subst, sym, ◌∙◌}
