@@ -160,4 +160,3 @@ keeps_up_at_fault M n now (Some all) left rest s t o p (bs, (c, f)) k =
 pub no_first : (A B : Type 0) → A ⊎ B → (A → ⊥) → B
 no_first A B (inl a) n = absurd (n a)
 no_first A B (inr b) n = b
-

@@ -1,7 +1,7 @@
 -- The steps of a run over many pieces: one piece, one byte, the bytes of a reading, and the end of the input.
 --
--- Main results: replied_not, answered_replied, replied_answered, only_own, next_answers, no_piece, next_breaks, byte_goes,
--- byte_breaks, byte_completes, loop_goes, loop_stops, loop_breaks, loop_ends, end_answers, end_breaks_later,
+-- Main results: replied_not, answered_replied, replied_answered, only_own, next_answers, no_piece, next_breaks,
+-- byte_goes, byte_breaks, byte_completes, loop_goes, loop_stops, loop_breaks, loop_ends, end_answers, end_breaks_later,
 -- end_breaks, end_stops
 use Rattle.std.specs.Prelude.{ℕ, suc, ◌≡◌, ◌≢◌, ◌⊎◌, ◌+◌, ◌<◌, ◌≤◌, ◌++◌, List, [], ◌∷◌, Option, max, drop, length}
 use Rattle.std.specs.Prelude.{get_or}

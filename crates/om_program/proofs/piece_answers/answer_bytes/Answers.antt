@@ -25,10 +25,11 @@ pub returns-then-not-is_answered : goal.returns-then-not-is_answered
 returns-then-not-is_answered g c =
     let so_far = c.loop-byte.invariant in
     let does = c.answer_byte-status.ensures in
+    let here = c.loop-byte-test.true in
     record {
       answer = λ answered. absurd (true≢false (sym (c.is_answered.ensures.1 answered) ∙ c.if-not-is_answered.true));
-      memory = λ memory rest. loop_stops _ _ _ _ rest _ _ _ _ _ _ c.loop-byte-test.true (so_far.answered rest) (does.memory memory);
-      cut = λ cut rest. loop_breaks _ _ _ _ rest _ _ _ _ _ _ c.loop-byte-test.true (so_far.answered rest) (does.cut cut);
+      memory = λ memory rest. loop_stops _ _ _ _ rest _ _ _ _ _ _ here (so_far.answered rest) (does.memory memory);
+      cut = λ cut rest. loop_breaks _ _ _ _ rest _ _ _ _ _ _ here (so_far.answered rest) (does.cut cut);
       no_usage = does.no_usage;
       no_read = does.no_read;
       write = λ cut. rose_before _ _ _ so_far.later (does.write cut);
@@ -53,17 +54,20 @@ loop-byte-preserved g c =
     }
 
 pub returns : goal.returns
-returns g c = record {
-  answer = λ answered rest. loop_ends _ made _ _ _ rest _ _ _ _ _ c.loop-byte-test.false (c.loop-byte.invariant.answered rest);
-  memory = λ memory rest. absurd (subst IsReplied memory c.loop-byte.invariant.replied);
-  cut = λ cut rest. absurd (subst IsReplied cut c.loop-byte.invariant.replied);
-  no_usage = replied_not _ status.Usage c.loop-byte.invariant.replied (λ none. none);
-  no_read = replied_not _ status.ReadFault c.loop-byte.invariant.replied (λ none. none);
-  write = λ cut. absurd (subst IsReplied cut c.loop-byte.invariant.replied);
-  again = λ answered. c.loop-byte.invariant.ready;
-  later = c.loop-byte.invariant.later;
-  prompt = λ answered rest. loop_ends _ completed _ _ _ rest _ _ _ _ _ c.loop-byte-test.false (c.loop-byte.invariant.prompt rest);
-}
+returns g c =
+    let so_far = c.loop-byte.invariant in
+    let end = c.loop-byte-test.false in
+    record {
+      answer = λ answered rest. loop_ends _ made _ _ _ rest _ _ _ _ _ end (so_far.answered rest);
+      memory = λ memory rest. absurd (subst IsReplied memory so_far.replied);
+      cut = λ cut rest. absurd (subst IsReplied cut so_far.replied);
+      no_usage = replied_not _ status.Usage so_far.replied (λ none. none);
+      no_read = replied_not _ status.ReadFault so_far.replied (λ none. none);
+      write = λ cut. absurd (subst IsReplied cut so_far.replied);
+      again = λ answered. so_far.ready;
+      later = so_far.later;
+      prompt = λ answered rest. loop_ends _ completed _ _ _ rest _ _ _ _ _ end (so_far.prompt rest);
+    }
 
 pub answer_byte-status-requires : goal.answer_byte-status-requires
 answer_byte-status-requires g c = (
