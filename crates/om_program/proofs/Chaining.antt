@@ -1,10 +1,9 @@
 -- What was answered in one call and what in the next make up what was answered in both.
 --
 -- Main results: nothing_yet, goes_further, stops_later, breaks_later.
-use Rattle.std.specs.Prelude.{ℕ, ◌≡◌, ◌++◌, List, [], ◌∷◌, Option, Some, None, max}
+use Rattle.std.specs.Prelude.{ℕ, ◌≡◌, ◌++◌, List, [], ◌∷◌, Option, max}
 use Rattle.std.proofs.Common.{refl, sym, ap, ◌∙◌, append_assoc, append-nil, arith}
 use Rattle.std.proofs.lemmas.List.Concat.{flat_map-append}
-use Rattle.std.specs.Io.KnownBytes.{Appends}
 use Rattle.om_port.proofs.Known.{Appends-then}
 use Rattle.om_port.proofs.Taking.{appended_none}
 use Rattle.om_reply.specs.declared.answer.Answer.{Answer}

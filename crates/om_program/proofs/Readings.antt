@@ -3,16 +3,14 @@
 -- Main definitions: Reaches, KeepsUp
 -- Main results: reach_start, starts, reach_further, reach_stops, reach_stops_later, reach_breaks_later, reach_end,
 -- reach_end_stops, reach_end_breaks, keeps_up_start, keeps_up_further, keeps_up_at_fault, no_first
-use Rattle.std.specs.Prelude.{ℕ, ◌≡◌, ◌⊎◌, ◌++◌, List, [], Option, Some, None, IfSome, take}
-use Rattle.std.proofs.Common.{refl, sym, ap, ◌∙◌, subst, append-nil, append_assoc, inl, inr}
+use Rattle.std.specs.Prelude.{ℕ, ◌≡◌, ◌⊎◌, ◌++◌, List, [], Option, Some, None, IfSome}
+use Rattle.std.proofs.Common.{refl, sym, ◌∙◌, subst, append-nil, append_assoc, inl, inr}
 use Rattle.std.specs.Io.KnownBytes.{Consumes, IsAtEnd, Keeps}
-use Rattle.om_port.specs.Causes.{TakesSome}
 use Rattle.om_port.proofs.Known.{Consumes-then, taken_kept}
 use Rattle.om_reply.specs.declared.answer.Answer.{Answer}
 use Rattle.om_reply.specs.declared.status.Status.{Status}
 use Rattle.om_pieces.specs.Making.{Making, completed, made, nothing}
 use Rattle.om_program.specs.Answered.{AreAnswered, IsUpToDate, GoesOn, Stops, Breaks}
-use Rattle.om_program.specs.Each.{TakesAll}
 use Rattle.om_program.proofs.Chaining.{goes_on, goes_further, all_answered, stops_later, breaks_later, stops_here}
 use Rattle.om_program.proofs.Chaining.{nothing_yet}
 

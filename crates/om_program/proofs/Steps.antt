@@ -3,9 +3,9 @@
 -- Main results: replied_not, answered_replied, replied_answered, only_own, next_answers, no_piece, next_breaks,
 -- byte_goes, byte_breaks, byte_completes, loop_goes, loop_stops, loop_breaks, loop_ends, end_answers, end_breaks_later,
 -- end_breaks, end_stops
-use Rattle.std.specs.Prelude.{ℕ, suc, ◌≡◌, ◌≢◌, ◌⊎◌, ◌+◌, ◌<◌, ◌≤◌, ◌++◌, List, [], ◌∷◌, Option, max, drop, length}
+use Rattle.std.specs.Prelude.{ℕ, ◌≡◌, ◌≢◌, ◌⊎◌, ◌+◌, ◌<◌, ◌≤◌, ◌++◌, List, [], ◌∷◌, Option, max, drop, length}
 use Rattle.std.specs.Prelude.{get_or}
-use Rattle.std.proofs.Common.{refl, sym, ap, ◌∙◌, subst, append-nil, arith, inl, inr, drop-cons}
+use Rattle.std.proofs.Common.{refl, sym, ap, ◌∙◌, subst, append-nil, arith, inl, inr}
 use Rattle.std.specs.Io.KnownBytes.{Appends}
 use Rattle.std.proofs.lemmas.List.{drop_all}
 use Rattle.om_reply.specs.declared.answer.Answer.{Answer}

@@ -1,9 +1,6 @@
-use Rattle.std.specs.Prelude.{ℕ, List}
-use Rattle.om_reply.specs.declared.answer.Answer.{Answer}
-use Rattle.std.proofs.Common.{◌++◌, subst, sym, ◌∙◌, arith}
+use Rattle.std.proofs.Common.{subst, sym, ◌∙◌}
 use Rattle.std.proofs.Math.Nat.{le_refl, le_trans}
 use Rattle.std.proofs.lemmas.Bool.{true≢false}
-use Rattle.om_program.specs.Meaning.{TaskMeans}
 use Rattle.om_reply.specs.declared.status.Status.TheVariants as status
 use Rattle.om_reply.specs.Statuses.{IsReplied}
 use Rattle.om_pieces.specs.Making.{completed, made}
