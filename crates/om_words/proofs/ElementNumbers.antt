@@ -1,7 +1,7 @@
 -- Words that are numbers of elements, and increasing lists with their last number.
 --
 -- Main definitions: AreIncreasing, GoesOn
--- Main results: same_number, one_element, element_read, this_above, last_of
+-- Main results: same_number, one_element, element_number, element_read, this_above, last_of
 use Rattle.std.specs.Prelude.{ℕ, ◌≡◌, ◌<◌, ◌≤◌, ◌^◌, ◌↔◌, length, map, List, [], ◌∷◌, ◌++◌, refl, Option, Some, None}
 use Rattle.std.specs.Prelude.{Bool, true, false, cond, not, nat_eq, nat_le, ◌&&◌, ◌||◌}
 use Rattle.std.specs.List.{list_all}
@@ -85,7 +85,7 @@ within_spelled least limit n word is = one (unsigned limit word) is
         low true same = same
 
 -- a word spells a number from 1 to the limit on elements where it is the number of an element
-element_number : (word : List ℕ) (e : ℕ) → (number_within 1 MAX_ELEMENTS word ≡ Some e) ↔ IsElement word e
+pub element_number : (word : List ℕ) (e : ℕ) → (number_within 1 MAX_ELEMENTS word ≡ Some e) ↔ IsElement word e
 element_number word e = (
   λ is. let l = number_limits 1 MAX_ELEMENTS e word is in record {
     low = l.0;
