@@ -129,11 +129,13 @@ colouring_same words a = (λ h. to h, λ h. from h)
         let size = length-map h.listed letter_of in
         let some : 1 ≤ length (map letter_of h.listed) = let l = h.some in omega (arith, size, l) in
         let few : length (map letter_of h.listed) ≤ MAX_LISTED = let l = h.few in omega (arith, size, l) in
+        let low = le-leb 1 (length (map letter_of h.listed)) some in
+        let high = le-leb (length (map letter_of h.listed)) MAX_LISTED few in
         record {
           letters = map letter_of h.listed;
           digits = h.digits;
           two = h.two;
-          colours = rw (le-leb 1 (length (map letter_of h.listed)) some, le-leb (length (map letter_of h.listed)) MAX_LISTED few, all_letters h.listed, letters_read h.listed)
+          colours = rw (low, high, all_letters h.listed, letters_read h.listed)
               (ap Some (sym h.colours));
           count = h.count ∙ sym size;
           element = h.element;
@@ -229,7 +231,8 @@ leading_same words a = (λ h. to h, λ h. from h)
         subst (λ ws. IsReadLeading ws a) (sym h.spelled) (record {
           some = let some = good.some in omega (arith, size, some);
           each = follow [] h.listed (omega (arith, few)) good.entries good.signed good.different (apart_none h.listed);
-          list = h.list ∙ ap (λ (es : List Signed). padded unlisted es) (sym (all_read h.listed good.entries good.signed));
+          list = h.list
+              ∙ ap (λ (es : List Signed). padded unlisted es) (sym (all_read h.listed good.entries good.signed));
           count = h.count ∙ sym size;
         })
 

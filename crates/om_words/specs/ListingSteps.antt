@@ -1,4 +1,4 @@
--- How calls read colours, and elements with signs: letter by letter, and word by word. These are no part of the meaning.
+-- How calls read colours, and elements with signs: letter by letter and word by word, no part of the meaning.
 use Rattle.std.specs.Prelude.{ℕ, ◌∷◌, List, [], Bool, false, cond, not, nat_eq, nat_le, nat_lt}
 use Rattle.std.specs.Prelude.{◌&&◌, length, Option, Some, None, is_some, option_map}
 use Rattle.std.specs.List.{list_all, list_any, filter_map}
