@@ -13,11 +13,9 @@ pub loop-place-init : goal.loop-place-init
 loop-place-init c =
     let m = c.args.chi.now in
     let w = c.args.beginning.now in
-    let last = c.len-last.ensures.value in
-    let start : choose (length w - 1) m.rank ≡ c.choose-place.result =
-    sym (c.choose-place.ensures.value ∙ ap (λ k. choose (k - 1) c.rank-rank.result) last
-    ∙ ap (choose (length w - 1)) c.rank-rank.ensures.value) in
-    subst (λ j. take j (first_image_signs m w) ≡ take j (first_signs m (length w))) start c.requires.tied
+    let start = c.choose-place.ensures.value ∙ ap (λ k. choose (k - 1) c.rank-rank.result) c.len-last.ensures.value
+    ∙ ap (choose (length w - 1)) c.rank-rank.ensures.value in
+    subst (λ j. take j (first_image_signs m w) ≡ take j (first_signs m (length w))) (sym start) c.requires.tied
 
 -- the place is that of a set of the first elements
 small_place : (k r j last rank end : ℕ) → j < end → end ≡ choose last rank → last ≡ k → rank ≡ r → j < choose k r
@@ -28,11 +26,10 @@ unrank_revlex-s-requires-clause-place c =
     let m = c.args.chi.now in
     let lt = small_place _ m.rank _ _ _ _ c.loop-place-test.true c.choose-place-end.ensures.value
     c.len-last.ensures.value c.rank-rank.ensures.value in
-    let g = choose_grows (length c.args.beginning.now) m.elements m.rank c.requires.few in
     let whole : choose c.elements-elements.result c.rank-rank.result ≡ choose m.elements m.rank =
     ap (λ i. choose i c.rank-rank.result) c.elements-elements.ensures.value
     ∙ ap (choose m.elements) c.rank-rank.ensures.value in
-    omega (arith, lt, g, whole)
+    omega (arith, lt, choose_grows (length c.args.beginning.now) m.elements m.rank c.requires.few, whole)
 
 -- the set at a place, in the numbers that the calls give
 placed : (k n r j last rank elements end : ℕ) (xs : List ℕ) → k ≤ n → j < end → end ≡ choose last rank → last ≡ k
@@ -75,10 +72,8 @@ loop-place-preserved c =
 pub returns : goal.returns
 returns c =
     let m = c.args.chi.now in
-    let w = c.args.beginning.now in
-    let k = length w in
+    let k = length c.args.beginning.now in
     let end = c.choose-place-end.ensures.value ∙ ap (λ i. choose i c.rank-rank.result) c.len-last.ensures.value
     ∙ ap (choose k) c.rank-rank.ensures.value in
-    let over = c.loop-place-test.false in
-    sym (agrees_on_all k m.rank (image_value w (value_of m)) (chi_of m) c.loop-place.place
-    (omega (arith, end, over)) c.loop-place.invariant)
+    sym (agrees_on_all k m.rank (image_value c.args.beginning.now (value_of m)) (chi_of m) c.loop-place.place
+    (omega (arith, end, c.loop-place-test.false)) c.loop-place.invariant)
