@@ -106,8 +106,8 @@ module _ (m : SignMap) (w u : List SignedElement) (a : SignedElement) (q : u ≡
       })
 
 -- what a call with one more entry requires, of what is known where it is made
-pub next_requires : (m : SignMap) (w : List SignedElement) (n size e : ℕ) (has : Bool) → n ≡ m.elements → n ≤ MAX_ELEMENTS
-    → size ≡ length w → (size ≡ n → ⊥) → length w ≤ m.elements → 1 ≤ e → e < n + 1 → has ≡ false
+pub next_requires : (m : SignMap) (w : List SignedElement) (n size e : ℕ) (has : Bool) → n ≡ m.elements
+    → n ≤ MAX_ELEMENTS → size ≡ length w → (size ≡ n → ⊥) → length w ≤ m.elements → 1 ≤ e → e < n + 1 → has ≡ false
     → (IsMember e (elements_of w) → has ≡ true)
     → (length w < m.elements) × (length w < MAX_PLACES) × IsElement m.elements e × (IsMember e (elements_of w) → ⊥)
 next_requires m w n size e has value high ql other few low test absent member =

@@ -37,7 +37,8 @@ placed : (k n r j last rank elements end : ℕ) (xs : List ℕ) → k ≤ n → 
     → (j < choose k r) × (xs ≡ revlex_subset_at k r j)
 placed k n r j last rank elements end xs le lt e ql qr qn q =
     let small = small_place k r j last rank end lt e ql qr in
-    (small, q ∙ ap (λ i. revlex_subset_at i rank j) qn ∙ ap (λ i. revlex_subset_at n i j) qr ∙ first_set k n r j le small)
+    let here = ap (λ i. revlex_subset_at i rank j) qn ∙ ap (λ i. revlex_subset_at n i j) qr in
+    (small, q ∙ here ∙ first_set k n r j le small)
 
 pub image_sign-requires-clause-first : goal.image_sign-requires-clause-first
 image_sign-requires-clause-first c =

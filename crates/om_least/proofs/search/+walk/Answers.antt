@@ -4,7 +4,8 @@ use Rattle.om_signs.specs.OrderLaws.{same_from_order}
 use Rattle.om_laws.specs.Members.{IsMember}
 use Rattle.om_symmetry.specs.Permutations.{elements_of}
 use Rattle.om_least.specs.Beginnings.{IsLeastBehind, first_signs, first_image_signs}
-use Rattle.om_least.proofs.Entries.{IsTried, passed_over, least_at_end, least_by_entries, IsComparable, comparable, longer, next_requires}
+use Rattle.om_least.proofs.Entries.{IsTried, IsComparable, passed_over, least_at_end, least_by_entries}
+use Rattle.om_least.proofs.Entries.{comparable, longer, next_requires}
 use Rattle.om_least.proofs.search.+walk.Goals as goal
 use Rattle.om_least.proofs.search.+walk.Goals.{lesser_behind-else-not-has, lesser_with-After-followed_by-longer}
 use Rattle.om_least.proofs.search.+walk.Goals.{lesser_behind-then-not-has+in_default+in_default-lesser_with}
@@ -19,14 +20,16 @@ lesser_behind-lesser_with-requires t c =
     let r = next_requires c.args.chi.now c.args.beginning.now _ _ _ _ c.elements-elements.ensures.value
     c.elements-elements.ensures.high c.len.ensures.value c.if-len-elements.false c.requires.few
     c.loop-element.auto.element c.loop-element-test.true c.if-not-has.true c.has.ensures.1 in
-    (omega (arith, c.decreases, r.0), (c.requires.begun, (r.0, (r.1, (c.requires.tied, (r.2, (r.3, c.requires.table)))))))
+    let tied = c.requires.tied in
+    (omega (arith, c.decreases, r.0), (c.requires.begun, (r.0, (r.1, (tied, (r.2, (r.3, c.requires.table)))))))
 
 pub lesser_behind-lesser_with-requires-then-not-has : goal.lesser_behind-lesser_with-requires-then-not-has
 lesser_behind-lesser_with-requires-then-not-has t c =
     let r = next_requires c.args.chi.now c.args.beginning.now _ _ _ _ c.elements-elements.ensures.value
     c.elements-elements.ensures.high c.len.ensures.value c.if-len-elements.false c.requires.few
     c.loop-element.auto.element c.loop-element-test.true c.if-not-has.true c.has.ensures.1 in
-    (omega (arith, c.decreases, r.0), (c.requires.begun, (r.0, (r.1, (c.requires.tied, (r.2, (r.3, c.requires.table)))))))
+    let tied = c.requires.tied in
+    (omega (arith, c.decreases, r.0), (c.requires.begun, (r.0, (r.1, (tied, (r.2, (r.3, c.requires.table)))))))
 
 pub lesser_behind-loop-element-preserved : goal.lesser_behind-loop-element-preserved
 lesser_behind-loop-element-preserved t c = λ e i lt off.
@@ -38,7 +41,8 @@ lesser_behind-loop-element-preserved t c = λ e i lt off.
             | lesser_behind-then-not-has+in_default+in_default-lesser_with b ↦
                 subst (IsTried c.args.chi.now c.args.beginning.now) here
                 (record { plain = b.in_default.ensures.least; negative = b.in_default-lesser_with.ensures.least })
-            | lesser_behind-else-not-has b ↦ absurd (off (subst (λ f. IsMember f (elements_of c.args.beginning.now)) here
+            | lesser_behind-else-not-has b ↦
+                absurd (off (subst (λ f. IsMember f (elements_of c.args.beginning.now)) here
                 (c.has.ensures.0 b.if-not-has.false)))
           ]
     ]
@@ -75,5 +79,6 @@ lesser_with-returns-in-Less-clause-before t c =
 
 pub lesser_with-returns-in-Greater-clause-least : goal.lesser_with-returns-in-Greater-clause-least
 lesser_with-returns-in-Greater-clause-least t c =
+    let r = next t (goal.at.lesser_with-returns-in-Greater-clause-least t c).After-followed_by-longer in
     subst (IsLeastBehind c.args.chi.now) c.followed_by-longer.ensures
-    (passed_over c.args.chi.now c.followed_by-longer.result (next t (goal.at.lesser_with-returns-in-Greater-clause-least t c).After-followed_by-longer).few (sym c.in-Greater.ensures))
+    (passed_over c.args.chi.now c.followed_by-longer.result r.few (sym c.in-Greater.ensures))
