@@ -185,10 +185,8 @@ impl SignedPermutation {
         let rank = chi.rank();
         let elements = self.elements();
         let mut signs = List::new(alloc);
-        let mut s = Subset::first(rank, elements);
-        for _place in 0..Subset::choose(elements, rank) {
+        for s in Subset::all(rank, elements) {
             signs.push(self.image_sign(chi, s))?;
-            s = s.following();
         }
         Ok(Chirotope::lawful(RawMap {
             rank,
