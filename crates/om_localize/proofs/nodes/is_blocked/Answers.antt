@@ -1,4 +1,4 @@
-use Rattle.std.proofs.Common.{length, sym, ◌∙◌, refl, true, false, ◌≡◌}
+use Rattle.std.proofs.Common.{length, sym, ◌∙◌}
 use Rattle.om_localize.specs.declared.circles.TheConstants.{MAX_OLD}
 use Rattle.om_localize.proofs.OpenLaws.{closed_first, closed_second, still_open}
 use Rattle.om_localize.proofs.PairLaws.{first_at_most, second_at_least, second_at_most}
