@@ -18,6 +18,7 @@ use Rattle.om_subsets.proofs.Order.{lexicographic, rank_from-lt}
 use Rattle.om_subsets.proofs.Statements.{subset_is_increasing}
 use Rattle.om_chirotope.specs.Map.{SignMap, chi_of}
 use Rattle.om_matroid.specs.Bases.{IsIndependent, IsIndependentPart, IsRankOf}
+use Rattle.om_localize.proofs.SignatureCircles.{pair_list}
 use Rattle.om_covers.specs.Classes.{IsUniform}
 use Rattle.om_least.specs.Least.{IsBefore, map_at, no_map}
 use Rattle.om_levels.specs.Levels.{IsMemberAt}
@@ -29,18 +30,6 @@ pub pair_elements : (e f : ℕ) → e < f → with_element e (f ∷ []) ≡ e �
 pair_elements e f lt =
     let ne : e ≢ f = omega arith in
     rw (ne_eqb e f ne, lt-ltb e f lt) refl
-
-pair_subset : (n e f : ℕ) → 1 ≤ e → e < f → f ≤ n → IsSubsetFrom 1 n (e ∷ f ∷ [])
-pair_subset n e f low lt high = (subset_is_increasing n (e ∷ f ∷ [])).1 (
-  (lt, tt),
-  λ g k. elim k [
-    | inl q ↦ (omega arith, omega arith)
-    | inr j ↦ elim j [
-      | inl q ↦ (omega arith, omega arith)
-      | inr none ↦ absurd none
-    ]
-  ],
-)
 
 -- an increasing list of two and more of two numbers has both
 both_in : (n e f x y : ℕ) (t : List ℕ) → e < f → IsSubsetFrom 1 n (x ∷ y ∷ t) → IsMember x (e ∷ f ∷ [])
@@ -91,7 +80,7 @@ module _ (m : SignMap) (e f : ℕ) (low : 1 ≤ e) (lt : e < f) (high : f ≤ m.
       let r : IsRankOf m (e ∷ f ∷ []) k = subst (λ u. IsRankOf m u k) q h in (
         λ two. (let size = r.reached.2 in from_part r.reached.0 r.reached.1 (omega arith)),
         λ independent. r.greatest (e ∷ f ∷ []) (record {
-          list = pair_subset m.elements e f low lt high;
+          list = pair_list m.elements e f low lt high;
           part = λ g j. j;
           independent = independent;
         }),
