@@ -1,7 +1,7 @@
 -- Steps of loops over the places of a list of signed elements.
 --
--- Main results: a place of a table (table_at, table_set); one more of a list that is made (stays_more); an entry that is
--- written (written_here, written_elsewhere); one more place of an inverse (back_more).
+-- Main results: a place of a table (table_at, table_set); one more of a list that is made (stays_more); an entry that
+-- is written (written_here, written_elsewhere); one more place of an inverse (back_more).
 use Rattle.std.proofs.Common.{ℕ, zero, suc, ◌≡◌, ◌≢◌, ◌+◌, ◌-◌, ◌<◌, ◌≤◌, List, [], ◌∷◌, ◌++◌, length, get_or}
 use Rattle.std.proofs.Common.{take, set, refl, sym, ap, subst, ◌∙◌, inl, inr, arith, false}
 use Rattle.std.proofs.lemmas.Bool.{cases_eq}
