@@ -38,8 +38,10 @@ loop-bracket-preserved c = (
   search rules,
   c.in_ok-push.ensures.ok ∙ ap (λ ws. ws ++ c.bracket_weight.result ∷ []) c.loop-bracket.invariant.2
       ∙ ap (λ w. map (λ p. weight_on p.0.elements p.1) c.loop-bracket.yielded ++ w ∷ [])
-      (c.bracket_weight.ensures ∙ ap (weight_on c.in-Some.bracket.elements) (stored-narrow c.in-Some.value (search rules)))
-      ∙ sym (map-append (λ p. weight_on p.0.elements p.1) c.loop-bracket.yielded ((c.in-Some.bracket, c.in-Some.value) ∷ [])),
+      (c.bracket_weight.ensures
+      ∙ ap (weight_on c.in-Some.bracket.elements) (stored-narrow c.in-Some.value (search rules)))
+      ∙ sym (map-append (λ p. weight_on p.0.elements p.1) c.loop-bracket.yielded
+      ((c.in-Some.bracket, c.in-Some.value) ∷ [])),
 )
 
 pub bracket_weight-requires : goal.bracket_weight-requires
@@ -77,4 +79,5 @@ returns c =
     (YieldsList-from_slice c.args.values.now
     (ap (λ i. iter_rest i) c.copied.ensures.source ∙ c.iter.ensures.rest ∙ c.as_slice.ensures))))))
     c.loop-bracket.yielded _ c.loop-bracket.yielded_by _ _ c.in-None.is c.next.ensures.steps in
-    c.loop-bracket.invariant.2 ∙ weights_at_end c.loop-bracket.yielded (nonzero_brackets c.args.chi.now) c.args.values.now end.0
+    c.loop-bracket.invariant.2
+    ∙ weights_at_end c.loop-bracket.yielded (nonzero_brackets c.args.chi.now) c.args.values.now end.0
