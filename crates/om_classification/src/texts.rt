@@ -1,16 +1,14 @@
 //! The texts of lines.
 
 ghost use Rattle.std.specs.Prelude.{◌≡◌, ◌++◌, IfOk, OnOk};
-ghost use Rattle.om_printing.specs.Texts.{signs_text};
 ghost use Rattle.om_classification.specs.Texts.{asked_word, fault_text, gap_text, line_text, named, unfit_text};
 
 use super::fault::Fault;
 use super::line::Line;
 use om_chain::{Asked, Gap, Unfit};
-use om_lines::words::byte_of_sign;
-use om_localize::Signature;
 use om_printing::pieces::{push, push_line_feed, push_subset};
 use om_printing::{print_line, push_number};
+use om_reply::push_signature;
 use om_signs::NoMemory;
 use std::alloc::Global;
 
@@ -124,7 +122,7 @@ fn push_gap(text: &mut Vec<u8>, elements: u8, gap: &Gap) -> Result<(), NoMemory>
             push_named(text, b"refused list", u128::from(elements))?;
             push_named(text, b" missing", *member as u128 + 1)?;
             push(text, b" ")?;
-            push_signs(text, signature)?;
+            push_signature(text, signature)?;
             push_line_feed(text)
         }
         Gap::Unmet { member } => {
@@ -138,14 +136,4 @@ fn push_gap(text: &mut Vec<u8>, elements: u8, gap: &Gap) -> Result<(), NoMemory>
             push_line_feed(text)
         }
     }
-}
-
-/// Appends the signs of a signature.
-fn push_signs(text: &mut Vec<u8>, signature: &Signature) -> Result<(), NoMemory>
-    ensures { OnOk result (text.new.items ≡ text.old.items ++ signs_text signature.now) }
-{
-    for k in 0..signature.len() {
-        text.push(byte_of_sign(signature.at(k)))?;
-    }
-    Ok(())
 }

@@ -1,11 +1,14 @@
 -- Lists that are gone through item by item: the bytes that are written of them, and the first sign other than zero.
 --
--- Main results: taken_all, mapped_more, mapped_all, begun_at, begun_past
-use Rattle.std.proofs.Common.{◌≡◌, ℕ, ◌+◌, ◌<◌, ◌≤◌, List, [], ◌∷◌, ◌++◌, true, length, get_or, take, drop, map, refl}
-use Rattle.std.proofs.Common.{ap, ◌∙◌, add-one, append_assoc, take-suc, take_all, drop-cons}
-use Rattle.std.proofs.lemmas.List.{map-append, drop_all}
+-- Main results: taken_all, mapped_more, mapped_all, begun_by_order
+use Rattle.std.proofs.Common.{◌≡◌, ℕ, ◌+◌, ◌<◌, ◌≤◌, List, [], ◌∷◌, ◌++◌, length, get_or, take, map, refl}
+use Rattle.std.proofs.Common.{ap, ◌∙◌, add-one, append_assoc, take-suc, take_all}
+use Rattle.std.specs.Ordering.{is_le}
+use Rattle.std.proofs.lemmas.List.{map-append}
 use Rattle.om_signs.specs.declared.sign.Sign.{Sign}
-use Rattle.om_signs.specs.declared.sign.Sign.TheVariants.{Zero}
+use Rattle.om_signs.specs.declared.sign.Sign.TheVariants.{Minus, Zero, Plus}
+use Rattle.om_signs.specs.Sign.{opposite}
+use Rattle.om_signs.specs.Order.{lexicographic}
 use Rattle.om_document.specs.PrintTwo.{begins_with_plus}
 
 -- what was written of the items so far, where these are all
@@ -27,11 +30,9 @@ pub mapped_all : {A : Type 0} (f : A → ℕ) (xs : List A) (i : ℕ) (out befor
 mapped_all f xs i out before now b l o n =
     n ∙ ap (λ ys. ys ++ b ∷ []) (taken_all (map f) xs i out before l o)
 
--- the signs from a place on begin with the sign there
-pub begun_at : (xs : List Sign) (i : ℕ) (s : Sign) → i < length xs → s ≡ get_or xs i Zero
-    → begins_with_plus (drop i xs) ≡ begins_with_plus (s ∷ drop (i + 1) xs)
-begun_at xs i s l e = rw (add-one, drop-cons xs i Zero l, e) refl
-
--- there is none behind all of them
-pub begun_past : (xs : List Sign) (i : ℕ) → length xs ≤ i → begins_with_plus (drop i xs) ≡ true
-begun_past xs i l = rw (drop_all i xs l) refl
+-- the first sign other than zero is the first place where signs and their negative differ
+pub begun_by_order : (xs : List Sign) → is_le (lexicographic (map opposite xs) xs) ≡ begins_with_plus xs
+begun_by_order [] = refl
+begun_by_order (Minus ∷ xs) = refl
+begun_by_order (Zero ∷ xs) = begun_by_order xs
+begun_by_order (Plus ∷ xs) = refl

@@ -20,7 +20,7 @@ pub use document_kind::DocumentKind;
 pub use kinds::Kind;
 pub use laws::sorting_keeps_members;
 pub use name::Name;
-pub use printer::{print, print_map};
+pub use printer::{print, print_map, push_signs};
 pub use printer_two::print_two;
 pub use setting::Setting;
 pub use version::Version;

@@ -10,6 +10,7 @@ ghost use Rattle.om_document.specs.Rows.{sorted};
 ghost use Rattle.om_document.specs.Document.{IsDocument};
 ghost use Rattle.om_document.specs.Form.{IsPoint, IsBodyOn, IsInForm};
 ghost use Rattle.std.specs.Fmt.{signed_decimal};
+ghost use Rattle.std.specs.Io.{StartsWith};
 ghost use Rattle.om_document.specs.Print.{text_of, sign_lines, member_lines, block_lines, point_lines, body_lines};
 ghost use Rattle.om_document.specs.Print.{kind_text, printed, sorted_document, unnamed_map};
 
@@ -46,13 +47,23 @@ fn push_rows(out: &mut Vec<u8>, signs: &[Sign]) -> Result<(), NoMemory>
     Ok(())
 }
 
+/// Appends the signs of a sign vector, in the order of the elements: `-`, `0` or `+` for each. If memory runs out, some
+/// of them may have been appended.
+pub fn push_signs(out: &mut Vec<u8>, vector: SignVec) -> Result<(), NoMemory>
+    ensures ok { OnOk result (out.new.items ≡ out.old.items ++ map byte_of vector) }
+    ensures kept { StartsWith out.new.items out.old.items }
+{
+    for place in 0..vector.len() {
+        out.push(byte_of_sign(vector.get(place + 1)))?;
+    }
+    Ok(())
+}
+
 /// Appends a sign vector, as a line.
 pub fn push_member(out: &mut Vec<u8>, member: SignVec) -> Result<(), NoMemory>
     ensures { OnOk result (out.new.items ≡ out.old.items ++ map byte_of member ++ 10 ∷ []) }
 {
-    for place in 0..member.len() {
-        out.push(byte_of_sign(member.get(place + 1)))?;
-    }
+    push_signs(out, member)?;
     out.push(b'\n')?;
     Ok(())
 }

@@ -137,14 +137,8 @@ fn push_values(out: &mut Vec<u8>, raw: &RawMap) -> Result<(), NoMemory>
 fn begins_with_plus(member: SignVec) -> bool
     ensures { result ≡ begins_with_plus member }
 {
-    for place in 0..member.len() {
-        match member.get(place + 1) {
-            Sign::Minus => return false,
-            Sign::Zero => {}
-            Sign::Plus => return true,
-        }
-    }
-    true
+    // the first sign other than zero is the first place where a vector and its negative differ
+    member.neg() <= member
 }
 
 /// Appends a member, as a line, if it begins with plus or is zero.

@@ -5,7 +5,7 @@
 -- is none the vector is the last one (last); two sets that agree before x agree before the next vector (agree_on), and
 -- after the last one they are the same (agree_at_last); else x is their first difference (first_difference).
 use Rattle.std.proofs.Common.{ℕ, ◌≡◌, ◌+◌, ◌-◌, ◌*◌, ◌^◌, ◌<◌, ◌↔◌, List, length, suc, set, refl, sym, ◌∙◌, ap, subst}
-use Rattle.std.proofs.Common.{arith, inl, inr, Bool, true, false, not, IsTrue, replicate}
+use Rattle.std.proofs.Common.{◌≤◌, arith, inl, inr, Bool, true, false, not, IsTrue, replicate}
 use Rattle.std.proofs.Common.{pow-suc}
 use Rattle.std.specs.Bool.{beq}
 use Rattle.std.proofs.lemmas.Bool.{cases_eq}
@@ -21,8 +21,18 @@ use Rattle.om_oriented.proofs.PlaceLaws.{base_three-lt, base_three-set, base_thr
 -- the last k signs, plus before, are now minus, and the others are as before
 pub record IsCarried (x next : List Sign) (k : ℕ) : Type 0 where
   pub size : length next ≡ length x
+  pub few : k ≤ length x
   pub same : (i : ℕ) → i + k < length x → at next i ≡ at x i
   pub number : base_three next + 3 ^ k ≡ base_three x + 1
+
+-- at the start none has been changed
+pub carried_none : (x : List Sign) (k : ℕ) → k ≡ 0 → IsCarried x x k
+carried_none x k e = subst (IsCarried x x) (sym e) (record {
+  size = refl;
+  few = omega arith;
+  same = λ i lt. refl;
+  number = refl;
+})
 
 -- two sets have the same vectors of length n before x
 pub record AgreeBefore (n : ℕ) (P Q : List Sign → Type 0) (x : List Sign) : Type 0 where
@@ -68,6 +78,7 @@ carried_on x next y k i h l is e =
     let p : 3 ^ (k + 1) ≡ 3 ^ k * 3 = power k in
     record {
       size = r.1;
+      few = omega arith;
       same = λ j lt. rw e (get_or-set_other next i j Minus Zero (omega arith)) ∙ h.same j (omega arith);
       number = omega arith;
     }

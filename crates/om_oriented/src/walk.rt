@@ -25,8 +25,7 @@ pub fn following(x: SignVec) -> Option<SignVec>
     ensures next { IfSome result (λ y. base_three y ≡ base_three x + 1) }
 {
     let mut next = x;
-    for k in 0..x.len() {
-        let e = x.len() - k;
+    for e in (1..x.len() + 1).rev() {
         match x.get(e) {
             Sign::Minus => return Some(next.set(e, Sign::Zero)),
             Sign::Zero => return Some(next.set(e, Sign::Plus)),

@@ -8,7 +8,7 @@ ghost use Rattle.std.specs.Fmt.{decimal};
 ghost use Rattle.om_printing.specs.Texts.{after_comma, signs_text, subset_text};
 
 use itoa::Buffer;
-use om_lines::words::byte_of_sign;
+use om_document::push_signs;
 use om_signs::{NoMemory, SignVec};
 use om_subsets::Subset;
 
@@ -92,15 +92,4 @@ pub fn push_vector(text: &mut Vec<u8>, vector: SignVec) -> Result<(), NoMemory>
         text.truncate(before);
     }
     pushed
-}
-
-/// Appends the signs of a sign vector. If memory runs out, some of them may have been appended.
-fn push_signs(text: &mut Vec<u8>, vector: SignVec) -> Result<(), NoMemory>
-    ensures ok { OnOk result (text.new.items ≡ text.old.items ++ signs_text vector) }
-    ensures kept { StartsWith text.new.items text.old.items }
-{
-    for place in 0..vector.len() {
-        text.push(byte_of_sign(vector.get(place + 1)))?;
-    }
-    Ok(())
 }

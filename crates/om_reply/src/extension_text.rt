@@ -45,17 +45,26 @@ fn push_signatures(text: &mut Vec<u8>, signatures: &[Signature]) -> Result<(), N
     ensures { OnOk result (text.new.items ≡ text.old.items ++ text_of (signature_lines signatures.now)) }
 {
     for signature in signatures {
-        push_signature(text, signature)?;
+        push_signature_line(text, signature)?;
     }
     Ok(())
 }
 
 /// Appends a signature and a line feed.
-fn push_signature(text: &mut Vec<u8>, signature: &Signature) -> Result<(), NoMemory>
+fn push_signature_line(text: &mut Vec<u8>, signature: &Signature) -> Result<(), NoMemory>
     ensures { OnOk result (text.new.items ≡ text.old.items ++ (signs_text signature.now ++ 10 ∷ [])) }
+{
+    push_signature(text, signature)?;
+    push_line_feed(text)
+}
+
+/// Appends the signs of a signature, in its order: `-`, `0` or `+` for each. If memory runs out, some of them may have
+/// been appended.
+pub fn push_signature(text: &mut Vec<u8>, signature: &Signature) -> Result<(), NoMemory>
+    ensures { OnOk result (text.new.items ≡ text.old.items ++ signs_text signature.now) }
 {
     for k in 0..signature.len() {
         text.push(byte_of_sign(signature.at(k)))?;
     }
-    push_line_feed(text)
+    Ok(())
 }

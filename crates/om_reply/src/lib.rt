@@ -22,6 +22,7 @@ mod writing;
 pub use answer::Answer;
 pub use claim::Claim;
 pub use claim_text::print_claim;
+pub use extension_text::push_signature;
 pub use printing::print_answer;
 pub use status::Status;
 pub use statuses::{greater, is_answered};

@@ -7,7 +7,7 @@ pub loop-signature-preserved : goal.loop-signature-preserved
 loop-signature-preserved c =
     signatures_more c.args.text.now.items _ _ c.args.signatures.now c.loop-signature.signature-index
     c.signature-item.result c.loop-signature-test.true c.signature-item.is c.loop-signature.invariant
-    c.in_ok-push_signature.ensures
+    c.in_ok-push_signature_line.ensures
 
 pub returns : goal.returns
 returns c = grind (arith, common_steps)
