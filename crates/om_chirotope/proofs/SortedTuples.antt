@@ -1,11 +1,14 @@
 -- The value of a tuple, from its elements taken from the last on.
 --
 -- Main results: before_even, before_odd, the sign of an element before a set; value_repeat and next_element for one
--- more element.
-use Rattle.std.specs.Prelude.{ℕ, ◌≡◌, ◌≢◌, ◌+◌, ◌-◌, ◌%◌, ◌<◌, List, [], ◌∷◌, length, refl}
+-- more element; from_end and bounds_from_end, the elements from the last on.
+use Rattle.std.specs.Prelude.{ℕ, ◌≡◌, ◌≢◌, ◌+◌, ◌-◌, ◌%◌, ◌<◌, ◌≤◌, List, [], ◌∷◌, length, refl}
 use Rattle.std.proofs.Common.{zero, suc, sym, ◌∙◌, ap, arith, inl, inr, get_or, drop}
 use Rattle.std.proofs.lemmas.Bool.{cases_lt, lt-ltb, le-ltb}
-use Rattle.std.proofs.lemmas.List.{drop_more}
+use Rattle.std.proofs.lemmas.List.{drop_more, get_or_default, length-reverse, get_or-reverse}
+use mathlib.Core.List.{reverse}
+use Rattle.om_subsets.specs.Lists.{IsWithin}
+use Rattle.om_laws.proofs.MemberLaws.{member_at}
 use Rattle.om_signs.specs.declared.sign.Sign.{Sign}
 use Rattle.om_signs.specs.declared.sign.Sign.TheVariants.{Minus, Zero, Plus}
 use Rattle.om_signs.specs.Sign.{product}
@@ -111,3 +114,32 @@ next_element tuple i set sign before l n es ss eb = record {
       ∙ ap (product (before_sign (get_or tuple (length tuple - 1 - i) 0) (drop (length tuple - i) tuple))) ss
       ∙ ap sort_sign (sym (next_rest tuple i l));
 }
+
+-- ---- from the last element on
+
+-- the element of a turn: the i-th from the end
+pub record IsFromEnd (tuple : List ℕ) (i e : ℕ) : Type 0 where
+  pub within : i < length tuple
+  pub here : e ≡ get_or tuple (length tuple - 1 - i) 0
+
+pub from_end : (tuple : List ℕ) (i e d : ℕ) → (i < length (reverse tuple)) × (e ≡ get_or (reverse tuple) i d)
+    → IsFromEnd tuple i e
+from_end tuple i e d t =
+    let size = length-reverse tuple in
+    let lt = t.0 in
+    let within : i < length tuple = omega (arith, lt, size) in
+    record {
+      within = within;
+      here = t.1 ∙ get_or-reverse tuple i d within ∙ get_or_default tuple _ d 0 (omega (arith, within));
+    }
+
+-- it is an element that the tuple may have
+pub bounds_from_end : (tuple : List ℕ) (i e n k : ℕ) → IsFromEnd tuple i e → IsWithin 1 n tuple → k ≡ n
+    → (1 ≤ e) × (e ≤ k)
+bounds_from_end tuple i e n k t all q =
+    let lt = t.within in
+    let b = all _ (member_at tuple (length tuple - 1 - i) (omega (arith, lt))) in
+    let low = b.0 in
+    let high = b.1 in
+    let here = t.here in
+    (omega (arith, low, here), omega (arith, high, here, q))

@@ -1,13 +1,12 @@
 -- What the table of the vectors U says of the pairs with a set S.
 --
 -- Main results: table_done, table_held, all_done and found, for the scan over the sets S; no_pairs_above,
--- no_pairs_of_rank_zero and part_before; one_below, some_rank and rank_below; taken_size,
--- taken_within and taken_room.
-use Rattle.std.specs.Prelude.{ℕ, ◌≡◌, ◌+◌, ◌-◌, ◌*◌, ◌<◌, ◌≤◌, List, [], ◌∷◌, ◌++◌, length, take}
+-- no_pairs_of_rank_zero and part_before; one_below, some_rank, rank_below and counted_within.
+use Rattle.std.specs.Prelude.{ℕ, ◌≡◌, ◌+◌, ◌-◌, ◌<◌, ◌≤◌, List, [], ◌∷◌, ◌++◌, length, take}
 use Rattle.std.proofs.Common.{sym, ◌∙◌, ap, arith, inl, inr, subst, get_or, set}
 use Rattle.std.proofs.lemmas.Bool.{cases_eq}
 use Rattle.std.proofs.lemmas.List.{ext_get_or, length-map, get_or-map, get_or-set_same, get_or-set_other, get_or-take}
-use Rattle.std.proofs.lemmas.List.{length-append, take_all, length-take-le}
+use Rattle.std.proofs.lemmas.List.{length-append, take_all}
 use Rattle.om_signs.specs.declared.sign.Sign.{Sign}
 use Rattle.om_signs.specs.SignVec.{IsOrthogonal}
 use Rattle.om_subsets.specs.Subsets.{choose, all_subsets, subset_at, rank_of, IsSubsetFrom}
@@ -183,17 +182,6 @@ some_rank rank h = omega (arith, h)
 pub rank_below : (rank elements : ℕ) → rank ≤ elements → (rank ≡ elements → ⊥) → rank < elements
 rank_below rank elements l h = omega (arith, l, h)
 
--- ---- the first places of a table
-
--- as many as wanted
-pub taken_size : {A : Type 0} (n count : ℕ) (xs : List A) → n ≡ count → n ≤ length xs → length (take n xs) ≡ count
-taken_size n count xs e h = length-take-le n xs h ∙ e
-
--- at most a number
-pub taken_within : {A : Type 0} (n most : ℕ) (xs : List A) → n ≤ most → n ≤ length xs → length (take n xs) ≤ most
-taken_within n most xs l h = rw (length-take-le n xs h) l
-
--- with room for the bits of all sets
-pub taken_room : {A : Type 0} (sets bits n : ℕ) (xs : List A) → sets ≤ bits * n → n ≤ length xs
-    → sets ≤ bits * length (take n xs)
-taken_room sets bits n xs l h = rw (length-take-le n xs h) l
+-- as many as counted
+pub counted_within : {count size most : ℕ} → count ≡ size → count ≤ most → size ≤ most
+counted_within e l = omega (arith, e, l)

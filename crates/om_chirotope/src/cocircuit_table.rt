@@ -14,11 +14,12 @@ use om_subsets::Subset;
 /// 12,870 values. Those of rank 14 on 19 elements have the most sets of one element less than the rank.
 pub const ROOM: usize = 27_132;
 
-/// The size of the table for small maps: the number of sets of three of [`MAX_ELEMENTS`] elements.
-pub const FEW: usize = MAX_ELEMENTS as usize
-    * (MAX_ELEMENTS as usize - 1)
-    * (MAX_ELEMENTS as usize - 2)
-    / 6;
+/// The size of the table for middle maps: the number of sets of three of [`MAX_ELEMENTS`] elements.
+pub const MANY: usize = FEW * (MAX_ELEMENTS as usize - 2) / 3;
+
+/// The size of the table for small maps: the number of sets of two of [`MAX_ELEMENTS`] elements. So the maps of rank 3
+/// are small.
+pub const FEW: usize = MAX_ELEMENTS as usize * (MAX_ELEMENTS as usize - 1) / 2;
 
 /// Fills the table with the vectors U of all sets of one element less than the rank, in lexicographic order.
 pub fn fill(map: &WholeMap, table: &mut [SignVec])

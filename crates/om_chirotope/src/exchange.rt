@@ -8,7 +8,7 @@ ghost use Rattle.om_chirotope.specs.ThreeTerm.{HasExchange, HasListExchange};
 ghost use Rattle.om_chirotope.specs.Pictures.{AreMarkedAbove, IsMet};
 
 use super::marking::{
-    FEW_ELEMENTS, FEW_WORDS, MOST_WORDS, WORDS, is_marked, mark_sets, number_of_words,
+    FEW_WORDS, MANY_WORDS, MOST_WORDS, WORDS, is_marked, mark_sets, number_of_words,
 };
 use super::whole_map::WholeMap;
 use om_signs::{MAX_ELEMENTS, MAX_PLACES, RawMap, SignVec};
@@ -41,30 +41,27 @@ fn has_exchange_of_lists(map: &WholeMap) -> bool
     requires { 1 ≤ map.now.rank }
     ensures { IsTrue result ↔ HasListExchange map.now }
 {
-    if map.raw.elements > FEW_ELEMENTS {
-        return has_exchange_with_room(map);
+    let words = number_of_words(map.raw.elements);
+    if words > MANY_WORDS {
+        return has_exchange_with_table::<MOST_WORDS>(map);
     }
-    let mut few = [0u64; FEW_WORDS];
-    has_exchange_by(map, &mut few[..number_of_words(map.raw.elements)])
+    if words > FEW_WORDS {
+        return has_exchange_with_table::<MANY_WORDS>(map);
+    }
+    has_exchange_with_table::<FEW_WORDS>(map)
 }
 
-/// `has_exchange_of_lists`, with a table that has room for the marks of the sets of any number of elements. It is
-/// never inlined, so that small maps don't pay for this table.
+/// `has_exchange_of_lists`, with a table of so many words for the marks of the sets. It is never inlined, so that small
+/// maps don't pay for the tables of large ones.
 #[inline(never)]
-fn has_exchange_with_room(map: &WholeMap) -> bool
-    requires { 1 ≤ map.now.rank }
-    ensures { IsTrue result ↔ HasListExchange map.now }
-{
-    let mut table = [0u64; MOST_WORDS];
-    has_exchange_by(map, &mut table[..number_of_words(map.raw.elements)])
-}
-
-/// `has_exchange_of_lists`, with a given table for the marks of the sets.
-fn has_exchange_by(map: &WholeMap, marks: &mut [u64]) -> bool
+fn has_exchange_with_table<const SIZE: usize>(map: &WholeMap) -> bool
     requires rank_low { 1 ≤ map.now.rank }
-    requires room { 2 ^ map.now.elements ≤ WORD_BITS * length marks.old }
+    requires room { 2 ^ map.now.elements ≤ WORD_BITS * SIZE }
+    requires small { SIZE ≤ MOST_WORDS }
     ensures { IsTrue result ↔ HasListExchange map.now }
 {
+    let mut table = [0u64; SIZE];
+    let marks = &mut table[..number_of_words(map.raw.elements)];
     mark_sets(map, marks);
     each_vector_is_met(map, marks)
 }
@@ -92,41 +89,27 @@ pub fn has_list_exchange(map: &WholeMap, cocircuits: &[SignVec]) -> bool
     requires filled { cocircuits.now ≡ cocircuit_vectors map.now }
     ensures { IsTrue result ↔ HasListExchange map.now }
 {
-    if map.raw.elements > FEW_ELEMENTS {
-        return has_list_exchange_with_room(map, cocircuits);
+    let words = number_of_words(map.raw.elements);
+    if words > MANY_WORDS {
+        return has_list_exchange_with_table::<WORDS>(map, cocircuits);
     }
-    let mut few = [0u64; FEW_WORDS];
-    has_list_exchange_by(
-        map,
-        cocircuits,
-        &mut few[..number_of_words(map.raw.elements)],
-    )
+    if words > FEW_WORDS {
+        return has_list_exchange_with_table::<MANY_WORDS>(map, cocircuits);
+    }
+    has_list_exchange_with_table::<FEW_WORDS>(map, cocircuits)
 }
 
-/// `has_list_exchange`, with a table that has room for the marks of the sets of [`MAX_ELEMENTS`] elements. It is
-/// never inlined either.
+/// `has_list_exchange`, with a table of so many words for the marks of the sets. It is never inlined either.
 #[inline(never)]
-fn has_list_exchange_with_room(map: &WholeMap, cocircuits: &[SignVec]) -> bool
-    requires high { map.now.elements ≤ MAX_ELEMENTS }
+fn has_list_exchange_with_table<const SIZE: usize>(map: &WholeMap, cocircuits: &[SignVec]) -> bool
     requires rank_low { 1 ≤ map.now.rank }
     requires filled { cocircuits.now ≡ cocircuit_vectors map.now }
+    requires room { 2 ^ map.now.elements ≤ WORD_BITS * SIZE }
+    requires small { SIZE ≤ MOST_WORDS }
     ensures { IsTrue result ↔ HasListExchange map.now }
 {
-    let mut table = [0u64; WORDS];
-    has_list_exchange_by(
-        map,
-        cocircuits,
-        &mut table[..number_of_words(map.raw.elements)],
-    )
-}
-
-/// `has_list_exchange`, with a given table for the marks of the sets.
-fn has_list_exchange_by(map: &WholeMap, cocircuits: &[SignVec], marks: &mut [u64]) -> bool
-    requires rank_low { 1 ≤ map.now.rank }
-    requires filled { cocircuits.now ≡ cocircuit_vectors map.now }
-    requires room { 2 ^ map.now.elements ≤ WORD_BITS * length marks.old }
-    ensures { IsTrue result ↔ HasListExchange map.now }
-{
+    let mut table = [0u64; SIZE];
+    let marks = &mut table[..number_of_words(map.raw.elements)];
     mark_sets(map, marks);
     each_basis_meets_each(map, cocircuits, marks)
 }

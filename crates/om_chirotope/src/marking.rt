@@ -19,11 +19,11 @@ const PLACE_BITS: u8 = 6;
 /// The number of words for the sets of [`MAX_ELEMENTS`] elements.
 pub const WORDS: usize = 1 << (MAX_ELEMENTS - PLACE_BITS);
 
-/// The greatest number of elements whose sets have their marks in a small table.
-pub const FEW_ELEMENTS: u8 = 16;
+/// The number of words for the sets of 16 elements.
+pub const MANY_WORDS: usize = 1 << (16 - PLACE_BITS);
 
-/// The number of words for the sets of [`FEW_ELEMENTS`] elements.
-pub const FEW_WORDS: usize = 1 << (FEW_ELEMENTS - PLACE_BITS);
+/// The number of words for the sets of 12 elements.
+pub const FEW_WORDS: usize = 1 << (12 - PLACE_BITS);
 
 /// The number of words for the sets of [`MAX_PLACES`] elements.
 pub const MOST_WORDS: usize = 1 << (MAX_PLACES - PLACE_BITS);
@@ -38,13 +38,11 @@ const LOW: [u64; PLACE_BITS as usize] = [
     0x0000_0000_ffff_ffff,
 ];
 
-/// The number of words for the sets of `elements` elements.
+/// The least number of words that have room for the marks of the sets of `elements` elements.
 pub fn number_of_words(elements: u8) -> usize
     requires { elements ≤ MAX_PLACES }
     ensures room { 2 ^ elements ≤ WORD_BITS * result }
-    ensures few { elements ≤ FEW_ELEMENTS → result ≤ FEW_WORDS }
-    ensures many { elements ≤ MAX_ELEMENTS → result ≤ WORDS }
-    ensures most { result ≤ MOST_WORDS }
+    ensures least { (k : ℕ) → 2 ^ elements ≤ WORD_BITS * k → result ≤ k }
 {
     ((1usize << elements) + WORD_BITS - 1) / WORD_BITS
 }
@@ -72,8 +70,8 @@ fn clear(words: &mut [u64])
     ensures room { length words.new ≡ length words.old }
     ensures clear { (i : ℕ) → get_or words.new i 0 ≡ 0 }
 {
-    for i in 0..words.len() {
-        words[i] = 0;
+    for word in words.iter_mut() {
+        *word = 0;
     }
 }
 
@@ -135,8 +133,8 @@ fn spread_within(words: &mut [u64], e: u8)
     requires { e < PLACE_BITS }
     ensures { IsSpread words.old words.new e }
 {
-    for i in 0..words.len() {
-        words[i] = spread_in(words[i], e);
+    for word in words.iter_mut() {
+        *word = spread_in(*word, e);
     }
 }
 

@@ -10,7 +10,7 @@ ghost use Rattle.om_chirotope.specs.Chirotope.{HasOrthogonalPairs, IsFirstViolat
 ghost use Rattle.om_chirotope.specs.Apart.{IsOrthogonalToAll, IsFirstApart};
 ghost use Rattle.om_chirotope.specs.Settlement.{IsGivenTest, IsSettled, IsUnsettled};
 
-use super::cocircuit_table::{FEW, ROOM, fill_while_orthogonal, first_apart_from};
+use super::cocircuit_table::{FEW, MANY, ROOM, fill_while_orthogonal, first_apart_from};
 use super::marking::WORDS;
 use super::threaded_scan::scan_on_threads;
 use super::three_terms::meets_test;
@@ -45,38 +45,28 @@ pub fn violated(raw: &RawMap) -> Option<(Subset, Subset)>
     if count > ROOM {
         return scan_each(map);
     }
-    if count > FEW {
-        return violated_with_room(map);
+    if count > MANY {
+        return violated_with_table::<ROOM>(map);
     }
-    let mut few = [SignVec::zero(raw.elements); FEW];
-    let cocircuits = &mut few[..count];
-    violated_by(map, cocircuits)
+    if count > FEW {
+        return violated_with_table::<MANY>(map);
+    }
+    violated_with_table::<FEW>(map)
 }
 
-/// `violated`, with a table that has room for the vectors U of each map of a document. It is never inlined, so that
-/// small maps don't pay for this table.
+/// `violated`, with a table that has room for so many vectors U. It is never inlined, so that small maps don't pay for
+/// the tables of large ones.
 #[inline(never)]
-fn violated_with_room(map: &WholeMap) -> Option<(Subset, Subset)>
+fn violated_with_table<const SIZE: usize>(map: &WholeMap) -> Option<(Subset, Subset)>
     requires rank_low { 1 ≤ map.now.rank }
     requires rank_high { map.now.rank < map.now.elements }
-    requires fits { choose map.now.elements (map.now.rank - 1) ≤ ROOM }
+    requires fits { choose map.now.elements (map.now.rank - 1) ≤ SIZE }
+    requires small { SIZE ≤ ROOM }
     ensures none { IsNone result ↔ HasOrthogonalPairs map.now }
     ensures first { IfSome result (λ p. IsFirstViolated map.now p.0 p.1) }
 {
-    let mut table = [SignVec::zero(map.raw.elements); ROOM];
+    let mut table = [SignVec::zero(map.raw.elements); SIZE];
     let cocircuits = &mut table[..Subset::choose(map.raw.elements, map.raw.rank - 1) as usize];
-    violated_by(map, cocircuits)
-}
-
-/// `violated`, with a given table for the vectors U.
-fn violated_by(map: &WholeMap, cocircuits: &mut [SignVec]) -> Option<(Subset, Subset)>
-    requires rank_low { 1 ≤ map.now.rank }
-    requires rank_high { map.now.rank < map.now.elements }
-    requires few { length cocircuits.old ≤ ROOM }
-    requires room { length cocircuits.old ≡ choose map.now.elements (map.now.rank - 1) }
-    ensures none { IsNone result ↔ HasOrthogonalPairs map.now }
-    ensures first { IfSome result (λ p. IsFirstViolated map.now p.0 p.1) }
-{
     match settle(map, cocircuits) {
         Settled::Orthogonal => None,
         Settled::Violated { s, a } => Some((s, a)),
@@ -104,45 +94,30 @@ pub fn violated_on_threads<R: Threads + Sync>(rt: &R, raw: &RawMap) -> Option<(S
     if count > ROOM {
         return scan_each(map);
     }
-    if count > FEW {
-        return violated_with_room_on_threads(rt, map);
+    if count > MANY {
+        return violated_with_table_on_threads::<R, ROOM>(rt, map);
     }
-    let mut few = [SignVec::zero(raw.elements); FEW];
-    let cocircuits = &mut few[..count];
-    violated_by_threads(rt, map, cocircuits)
+    if count > FEW {
+        return violated_with_table_on_threads::<R, MANY>(rt, map);
+    }
+    violated_with_table_on_threads::<R, FEW>(rt, map)
 }
 
-/// `violated_on_threads`, with a table that has room for the vectors U of each map of a document. It is never
-/// inlined either.
+/// `violated_on_threads`, with a table that has room for so many vectors U. It is never inlined either.
 #[inline(never)]
-fn violated_with_room_on_threads<R: Threads + Sync>(
+fn violated_with_table_on_threads<R: Threads + Sync, const SIZE: usize>(
     rt: &R,
     map: &WholeMap,
 ) -> Option<(Subset, Subset)>
     requires rank_low { 1 ≤ map.now.rank }
     requires rank_high { map.now.rank < map.now.elements }
-    requires fits { choose map.now.elements (map.now.rank - 1) ≤ ROOM }
+    requires fits { choose map.now.elements (map.now.rank - 1) ≤ SIZE }
+    requires small { SIZE ≤ ROOM }
     ensures none { IsNone result ↔ HasOrthogonalPairs map.now }
     ensures first { IfSome result (λ p. IsFirstViolated map.now p.0 p.1) }
 {
-    let mut table = [SignVec::zero(map.raw.elements); ROOM];
+    let mut table = [SignVec::zero(map.raw.elements); SIZE];
     let cocircuits = &mut table[..Subset::choose(map.raw.elements, map.raw.rank - 1) as usize];
-    violated_by_threads(rt, map, cocircuits)
-}
-
-/// `violated_on_threads`, with a given table for the vectors U.
-fn violated_by_threads<R: Threads + Sync>(
-    rt: &R,
-    map: &WholeMap,
-    cocircuits: &mut [SignVec],
-) -> Option<(Subset, Subset)>
-    requires rank_low { 1 ≤ map.now.rank }
-    requires rank_high { map.now.rank < map.now.elements }
-    requires few { length cocircuits.old ≤ ROOM }
-    requires room { length cocircuits.old ≡ choose map.now.elements (map.now.rank - 1) }
-    ensures none { IsNone result ↔ HasOrthogonalPairs map.now }
-    ensures first { IfSome result (λ p. IsFirstViolated map.now p.0 p.1) }
-{
     match settle(map, cocircuits) {
         Settled::Orthogonal => None,
         Settled::Violated { s, a } => Some((s, a)),

@@ -1,11 +1,11 @@
 //! The three-term test: a fast way to see that all pairs of sign vectors are orthogonal.
 
 ghost use Rattle.std.specs.Prelude.{ℕ, ◌≡◌, ◌+◌, ◌-◌, ◌<◌, ◌≤◌, ◌^◌, ◌↔◌, ◌∷◌, ◌++◌, length, replicate, take, IsTrue};
-ghost use Rattle.std.specs.Prelude.{[]};
+ghost use Rattle.std.specs.Prelude.{[], map};
 ghost use Rattle.std.specs.Int.{bit_at};
 ghost use Rattle.std.proofs.Math.ListN.{get_or};
 ghost use Rattle.om_signs.specs.Sign.{opposite, product};
-ghost use Rattle.om_signs.specs.SignVec.{at, at_element, IsMaskOf};
+ghost use Rattle.om_signs.specs.SignVec.{at, at_element, IsMaskOf, IsPlus, IsMinus};
 ghost use Rattle.om_subsets.specs.Subsets.{choose, rank_of, IsMember, IsSubsetFrom, with_element};
 ghost use Rattle.om_laws.specs.ThreeTerm.{AreBalanced};
 ghost use Rattle.om_chirotope.specs.Map.{map_of, cocircuit_vector, cocircuit_vectors};
@@ -13,7 +13,7 @@ ghost use Rattle.om_chirotope.specs.Chirotope.{HasOrthogonalPairs};
 ghost use Rattle.om_chirotope.specs.ThreeTerm.{HasThreeTermRelations};
 ghost use Rattle.om_chirotope.specs.Pictures.{AreLong, AreRowsBelow, HasRelationsAt, IsLive, IsTriple};
 
-use super::cocircuit_table::{FEW, ROOM, cocircuit_at, fill};
+use super::cocircuit_table::{FEW, MANY, ROOM, cocircuit_at, fill};
 use super::exchange::has_list_exchange;
 use super::walking::places_with;
 use super::whole_map::WholeMap;
@@ -61,33 +61,26 @@ pub fn has_three_term_relations(raw: &RawMap) -> bool
     if count > ROOM {
         return has_relations(map, &[]);
     }
-    if count > FEW {
-        return has_relations_with_room(map);
+    if count > MANY {
+        return has_relations_with_table::<ROOM>(map);
     }
-    let mut few = [SignVec::zero(raw.elements); FEW];
-    let cocircuits = &mut few[..count];
-    has_relations_by(map, cocircuits)
+    if count > FEW {
+        return has_relations_with_table::<MANY>(map);
+    }
+    has_relations_with_table::<FEW>(map)
 }
 
-/// `has_three_term_relations`, with a table that has room for the vectors U of each map of a document. It is never
-/// inlined, so that small maps don't pay for this table.
+/// `has_three_term_relations`, with a table that has room for so many vectors U. It is never inlined, so that small
+/// maps don't pay for the tables of large ones.
 #[inline(never)]
-fn has_relations_with_room(map: &WholeMap) -> bool
+fn has_relations_with_table<const SIZE: usize>(map: &WholeMap) -> bool
     requires rank_low { 1 ≤ map.now.rank }
-    requires fits { choose map.now.elements (map.now.rank - 1) ≤ ROOM }
+    requires fits { choose map.now.elements (map.now.rank - 1) ≤ SIZE }
+    requires small { SIZE ≤ ROOM }
     ensures { IsTrue result ↔ HasThreeTermRelations map.now }
 {
-    let mut table = [SignVec::zero(map.raw.elements); ROOM];
+    let mut table = [SignVec::zero(map.raw.elements); SIZE];
     let cocircuits = &mut table[..Subset::choose(map.raw.elements, map.raw.rank - 1) as usize];
-    has_relations_by(map, cocircuits)
-}
-
-/// `has_three_term_relations`, with a given table for the vectors U.
-fn has_relations_by(map: &WholeMap, cocircuits: &mut [SignVec]) -> bool
-    requires rank_low { 1 ≤ map.now.rank }
-    requires room { length cocircuits.old ≡ choose map.now.elements (map.now.rank - 1) }
-    ensures { IsTrue result ↔ HasThreeTermRelations map.now }
-{
     fill(map, cocircuits);
     has_relations(map, cocircuits)
 }
@@ -252,19 +245,19 @@ pub fn are_balanced(first: SignVec, second: SignVec, third: SignVec, y: u8, z: u
     let u = scaled(first.get(y), third);
     let v = scaled(first.get(z).neg(), second);
     let w = scaled(second.get(z), first);
-    let plus = u.plus() | v.plus() | w.plus();
-    let minus = u.minus() | v.minus() | w.minus();
-    plus == minus
+    u.0 | v.0 | w.0 == u.1 | v.1 | w.1
 }
 
-/// The vector with each sign multiplied by s.
-fn scaled(s: Sign, vector: SignVec) -> SignVec
-    ensures len { length result ≡ length vector }
-    ensures signs { (i : ℕ) → i < length vector → at result i ≡ product s (at vector i) }
+/// The masks of the pluses and of the minuses of the vector with each sign multiplied by s. It has no branch, since
+/// nobody foresees which way it would go.
+fn scaled(s: Sign, vector: SignVec) -> (u32, u32)
+    ensures plus { IsMaskOf (length vector) (IsPlus (map (product s) vector)) result.0 }
+    ensures minus { IsMaskOf (length vector) (IsMinus (map (product s) vector)) result.1 }
 {
-    match s {
-        Sign::Plus => vector,
-        Sign::Zero => SignVec::zero(vector.len()),
-        Sign::Minus => vector.neg(),
-    }
+    let same = s.plus_bit();
+    let turned = s.minus_bit();
+    (
+        same * vector.plus() + turned * vector.minus(),
+        same * vector.minus() + turned * vector.plus(),
+    )
 }

@@ -108,13 +108,12 @@ impl WholeMap<'_> {
     {
         let mut set = Subset::first(0, self.raw.elements);
         let mut sign = Sign::Plus;
-        for i in 0..tuple.len() {
-            let e = tuple[tuple.len() - 1 - i];
-            if set.has(e) {
+        for e in tuple.iter().rev() {
+            if set.has(*e) {
                 return Sign::Zero;
             }
-            sign = sorting_sign(set, e).times(sign);
-            set = set.with(e);
+            sign = sorting_sign(set, *e).times(sign);
+            set = set.with(*e);
         }
         sign.times(self.sign_at(set))
     }

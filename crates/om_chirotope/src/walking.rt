@@ -20,16 +20,16 @@ pub fn places_with(set: Subset) -> [u32; PLACES]
 {
     let mut places = [0u32; PLACES];
     let mut left = set.size();
-    // the place of the set, and what is to be added to it if the new element comes after those seen so far
-    let mut place = set.rank();
+    // how many sets come from this one on; and, for all elements so far together, how many sets have the same elements
+    // before it, and lack it
+    let later = Subset::choose(set.n(), left) - set.rank();
+    let mut passed = 0;
     for e in 1..set.n() + 1 {
+        passed += Subset::choose(set.n() - e, left);
         if set.has(e) {
             left -= 1;
         } else {
-            let without = Subset::choose(set.n() - e, left);
-            let here = place + without - Subset::choose(set.n() - e + 1, left);
-            places[e as usize - 1] = here;
-            place = here + without;
+            places[e as usize - 1] = passed - later;
         }
     }
     places
