@@ -1,17 +1,17 @@
 -- The steps of the calls for lexicographic extensions.
 --
--- Main results: drop_entry, without_off, without_size, sign_with_last, sign_without_last, same_map_of,
+-- Main results: without_off, without_size, sign_with_last, sign_without_last, same_map_of,
 -- found_entry, passed_entry, entry_bounds
 -- Reference: Björner, Las Vergnas, Sturmfels, White and Ziegler, Oriented Matroids, chapter 7.
-use Rattle.std.proofs.Common.{ℕ, zero, suc, ◌≡◌, ◌≢◌, ◌+◌, ◌<◌, ◌≤◌, ◌⊎◌, List, [], ◌∷◌, length, map, drop}
-use Rattle.std.proofs.Common.{cond, refl, sym, ap, subst, ◌∙◌, inl, inr, ⊎_elim, arith, get_or}
-use Rattle.std.proofs.lemmas.Bool.{cases_eq, eq-eqb, ne_eqb}
-use Rattle.std.proofs.lemmas.List.{length-append}
+use Rattle.std.proofs.Common.{ℕ, ◌≡◌, ◌≢◌, ◌+◌, ◌<◌, ◌≤◌, List, [], ◌∷◌, length, map, drop}
+use Rattle.std.proofs.Common.{refl, sym, ap, subst, ◌∙◌, ⊎_elim, arith, get_or}
+use Rattle.std.proofs.lemmas.List.{drop_more, length-append}
 use Rattle.om_signs.specs.declared.sign.Sign.{Sign}
 use Rattle.om_signs.specs.declared.sign.Sign.TheVariants.{Zero}
 use Rattle.om_signs.specs.Sign.{product, first_nonzero}
 use Rattle.om_signs.proofs.SignLaws.{first_nonzero_left, first_nonzero_right}
 use Rattle.om_subsets.specs.Subsets.{IsSubsetFrom, IsMember, without_element, all_subsets}
+use Rattle.om_subsets.proofs.Statements.{members_without}
 use Rattle.om_laws.specs.Relations.{along}
 use Rattle.om_laws.specs.Signs.{IsNonzero}
 use Rattle.om_chirotope.specs.Map.{SignMap, chi_of, value_of}
@@ -22,22 +22,8 @@ use Rattle.om_lexext.proofs.LastElements.{off_last, has_member, has_not, without
 
 -- ---- the steps of the calls
 
-pub drop_entry : (list : List Signed) (i : ℕ) (d : Signed) → i < length list
-    → drop i list ≡ get_or list i d ∷ drop (i + 1) list
-drop_entry [] i d l = absurd (omega (arith, l))
-drop_entry (x ∷ xs) zero d l = refl
-drop_entry (x ∷ xs) (suc i) d l = drop_entry xs i d (omega (arith, l))
-    ∙ ap (λ k. get_or xs i d ∷ drop k (x ∷ xs)) (let e : suc (i + 1) ≡ suc i + 1 = omega arith in e)
-
 pub without_off : (n : ℕ) (xs : List ℕ) → IsMember n (without_element n xs) → ⊥
-without_off n [] k = k
-without_off n (x ∷ xs) k = elim (cases_eq n x) [
-  | inl q ↦
-      without_off n xs
-      (subst (IsMember n) (ap (λ b. cond b (without_element n xs) (x ∷ without_element n xs)) (eq-eqb n x q)) k)
-  | inr d ↦ ⊎_elim (λ e. absurd (d e)) (λ j. without_off n xs j)
-      (subst (IsMember n) (ap (λ b. cond b (without_element n xs) (x ∷ without_element n xs)) (ne_eqb n x d)) k)
-]
+without_off n xs k = ((members_without n n xs).0 k).0 refl
 
 pub without_size : (n : ℕ) (xs : List ℕ) → IsSubsetFrom 1 (n + 1) xs → IsMember (n + 1) xs
     → length (without_element (n + 1) xs) + 1 ≡ length xs
@@ -68,7 +54,7 @@ module _ (u : ℕ → Sign) (n : ℕ) (list : List Signed) (i : ℕ) (d : Signed
   here_listed : first_listed u (drop i list)
       ≡ first_nonzero (product (get_or list i d).sign (u (get_or list i d).element))
       (first_listed u (drop (i + 1) list))
-  here_listed = ap (first_listed u) (drop_entry list i d l)
+  here_listed = ap (first_listed u) (drop_more list i d l)
 
   pub found_entry : (s : Sign) → first_listed u list ≡ first_listed u (drop i list)
       → s ≡ product (get_or list i d).sign (u (get_or list i d).element) → s ≢ Zero → s ≡ first_listed u list
@@ -86,4 +72,4 @@ module _ (u : ℕ → Sign) (n : ℕ) (list : List Signed) (i : ℕ) (d : Signed
 
   pub entry_bounds : AreEntries n (drop i list) → (1 ≤ (get_or list i d).element) × ((get_or list i d).element ≤ n)
       × AreEntries n (drop (i + 1) list)
-  entry_bounds h = subst (AreEntries n) (drop_entry list i d l) h
+  entry_bounds h = subst (AreEntries n) (drop_more list i d l) h

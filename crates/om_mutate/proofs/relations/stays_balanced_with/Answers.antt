@@ -1,4 +1,4 @@
-use Rattle.std.proofs.Common.{◌≤◌, ◌∙◌, sym, subst, refl}
+use Rattle.std.proofs.Common.{◌≡◌, ◌≤◌, ◌∙◌, length, sym, subst, refl}
 use Rattle.om_mutate.proofs.TurnedRows.{rows_balanced, balanced_rows, turned_size, always_balanced}
 use Rattle.om_mutate.proofs.relations.stays_balanced_with.Goals as goal
 
@@ -14,36 +14,21 @@ returns-then-z-y c = (
   λ _. refl,
 )
 
-pub row-requires-clause-p : goal.row-requires-clause-p
-row-requires-clause-p c = c.requires.p
+pub row-requires : goal.row-requires
+row-requires c = record { p = c.requires.p; x = c.requires.z }
 
-pub row-requires-clause-x : goal.row-requires-clause-x
-row-requires-clause-x c = c.requires.z
-
-pub are_balanced-requires-clause-second : goal.are_balanced-requires-clause-second
-are_balanced-requires-clause-second c =
-    turned_size c.args.chi.now c.args.p c.args.y c.args.x c.args.second c.requires.second
-    ∙ sym (turned_size c.args.chi.now c.args.p c.args.x c.args.y c.args.first c.requires.first)
-
-pub are_balanced-requires-clause-third : goal.are_balanced-requires-clause-third
-are_balanced-requires-clause-third c =
-    c.row.ensures.size ∙ sym (turned_size c.args.chi.now c.args.p c.args.x c.args.y c.args.first c.requires.first)
-
-pub are_balanced-requires-clause-y_low : goal.are_balanced-requires-clause-y_low
-are_balanced-requires-clause-y_low c = c.requires.y.0
-
-pub are_balanced-requires-clause-y_high : goal.are_balanced-requires-clause-y_high
-are_balanced-requires-clause-y_high c =
-    subst (λ k. c.args.y ≤ k)
-    (sym (turned_size c.args.chi.now c.args.p c.args.x c.args.y c.args.first c.requires.first)) c.requires.y.1
-
-pub are_balanced-requires-clause-z_low : goal.are_balanced-requires-clause-z_low
-are_balanced-requires-clause-z_low c = c.requires.z.0
-
-pub are_balanced-requires-clause-z_high : goal.are_balanced-requires-clause-z_high
-are_balanced-requires-clause-z_high c =
-    subst (λ k. c.args.z ≤ k)
-    (sym (turned_size c.args.chi.now c.args.p c.args.x c.args.y c.args.first c.requires.first)) c.requires.z.1
+pub are_balanced-requires : goal.are_balanced-requires
+are_balanced-requires c =
+    let n : length c.args.first ≡ c.args.chi.now.elements =
+    turned_size c.args.chi.now c.args.p c.args.x c.args.y c.args.first c.requires.first in
+    record {
+      second = turned_size c.args.chi.now c.args.p c.args.y c.args.x c.args.second c.requires.second ∙ sym n;
+      third = c.row.ensures.size ∙ sym n;
+      y_low = c.requires.y.0;
+      y_high = subst (λ k. c.args.y ≤ k) (sym n) c.requires.y.1;
+      z_low = c.requires.z.0;
+      z_high = subst (λ k. c.args.z ≤ k) (sym n) c.requires.z.1;
+    }
 
 pub returns : goal.returns
 returns c = (
