@@ -47,7 +47,8 @@ fn term_brackets(st: Statement, number: u8, n: u8) -> (Subset, Subset)
     }
 }
 
-/// The set of three distinct elements of 1 to n.
+/// The set of three distinct elements of 1 to n, with a contract that speaks of sorted triples: it is proved once for
+/// the six brackets.
 fn set_of(x: u8, y: u8, z: u8, n: u8) -> Subset
     requires high { n ≤ MAX_ELEMENTS }
     requires x { IsElement n x }

@@ -1,10 +1,8 @@
 -- The four forms of one point, added to those on a circle.
 --
--- Main results: no_point, four_forms; four_places and place_fits, the bits of the four forms
+-- Main results: no_point, four_forms
 use Rattle.std.proofs.Common.{ℕ, ◌≡◌, ◌≢◌, ◌+◌, ◌-◌, ◌*◌, ◌≤◌, ◌⊎◌, ◌↔◌, List, map, refl, sym, ◌∙◌, ⊎_elim, arith, inl}
-use Rattle.std.proofs.Common.{inr, ◌<◌}
-use mir.Syntax.{w8}
-use mir.Val.{Fits}
+use Rattle.std.proofs.Common.{inr, subst}
 use Rattle.om_signs.specs.declared.sign.Sign.{Sign}
 use Rattle.om_signs.specs.declared.sign.Sign.TheVariants.{Minus, Zero, Plus}
 use Rattle.om_signs.specs.Sign.{opposite, product, first_nonzero}
@@ -18,7 +16,8 @@ use Rattle.om_chirotope.specs.Chirotope.{IsChirotope}
 use Rattle.om_localize.specs.declared.circles.TheConstants.{MAX_OLD}
 use Rattle.om_localize.specs.Circles.{IsPoint, circle_of}
 use Rattle.om_localize.proofs.SignatureCircles.{circle_within}
-use Rattle.om_localize.specs.Masks.{HasSign, HasSomeForm, IsFormAdded, IsOnHalvesBelow, AreMasksUpTo}
+use Rattle.om_localize.specs.Masks.{HasSign, HasSomeForm, IsFormAdded, AreBothAdded, IsOnHalvesBelow}
+use Rattle.om_localize.specs.Masks.{AreMasksUpTo}
 use Rattle.om_localize.proofs.PointForms.{AreSame, sign_of_other_bit, done_elsewhere, empty_elsewhere, forms_here}
 use Rattle.om_localize.proofs.PointForms.{IsAtPoint, below_more, zeros_forth, zeros_back, cut_forth, cut_back}
 
@@ -133,13 +132,18 @@ module _ (m : SignMap) (r : m.rank ≡ 3) (h : IsChirotope m) (e f : ℕ) (point
             back (Zero, inr x) = absurd (x.side refl)
             back (Plus, inr x) = inl (inr (cut_back m r h e f points cut points_are k k_low k_high off cut_is Plus s x))
 
-        pub four_forms : (b : ℕ) (m0 m1 m2 m3 m4 : List ℕ) → m.elements ≤ MAX_OLD → 1 ≤ e → 1 ≤ f → b ≡ 4 * (f - 1) + 1
-            → AreMasksUpTo m m0 e f
-            → IsFormAdded m.elements e (at_element points) b m0 m1
-            → IsFormAdded m.elements e (at_element (map opposite points)) (b + 1) m1 m2
-            → IsFormAdded m.elements e (at_element cut) (b + 2) m2 m3
-            → IsFormAdded m.elements e (at_element (map opposite cut)) (b + 3) m3 m4 → AreMasksUpTo m m4 e (f + 1)
-        four_forms b m0 m1 m2 m3 m4 few low f_low q before a1 a2 a3 a4 =
+        pub four_forms : (b : ℕ) (m0 m2 m4 : List ℕ) → m.elements ≤ MAX_OLD → 1 ≤ e → 1 ≤ f → b ≡ 4 * (f - 1) + 1
+            → AreMasksUpTo m m0 e f → AreBothAdded m.elements e points b m0 m2
+            → AreBothAdded m.elements e cut (b + 2) m2 m4 → AreMasksUpTo m m4 e (f + 1)
+        four_forms b m0 m2 m4 few low f_low q before points_added cut_added =
+            let m1 = points_added.between in
+            let m3 = cut_added.between in
+            let a1 = points_added.first in
+            let a2 = points_added.second in
+            let a3 = cut_added.first in
+            let next : b + 2 + 1 ≡ b + 3 = omega arith in
+            let a4 = subst (λ k. IsFormAdded m.elements e (at_element (map opposite cut)) k m3 m4) next
+            cut_added.second in
             let h0 : HaveForms m.elements e (IsOnHalvesBelow (circle_of m e) f) b m0 =
             record {
               forms = before.here.forms;
@@ -198,25 +202,3 @@ module _ (m : SignMap) (r : m.rank ≡ 3) (h : IsChirotope m) (e f : ℕ) (point
                 new (inl (inl (inr y))) = inl (inl (inr y))
                 new (inl (inr y)) = inl (inr y)
                 new (inr y) = inr y
-
--- the bits of the four forms of the point f
-pub record AreFourPlaces (f : ℕ) : Type 0 where
-  pub start : 4 * (f - 1) < 128
-  pub first : 4 * (f - 1) + 1 < 128
-  pub second : 4 * (f - 1) + 1 + 1 < 128
-  pub third : 4 * (f - 1) + 1 + 2 < 128
-  pub fourth : 4 * (f - 1) + 1 + 3 < 128
-
--- the mask of a circle has bits for the four forms of each of its points
-pub four_places : (f n : ℕ) → f ≤ n → n ≤ MAX_OLD → AreFourPlaces f
-four_places f n h few = record {
-  start = omega arith;
-  first = omega arith;
-  second = omega arith;
-  third = omega arith;
-  fourth = omega arith;
-}
-
--- the number of a bit fits into a byte
-pub place_fits : (k : ℕ) → k < 128 → Fits w8 k
-place_fits k h = omega arith

@@ -1,8 +1,8 @@
 -- One sign more of a signature leaves the open forms that have it.
 --
--- Main results: at_first, at_second, narrowed
+-- Main results: at_first, at_second, narrowed, written
 use Rattle.std.proofs.Common.{ℕ, ◌≡◌, ◌≢◌, ◌+◌, ◌-◌, ◌<◌, ◌≤◌, ◌⊎◌, ◌↔◌, List, [], ◌∷◌, ◌++◌, length, get_or, sym, ◌∙◌}
-use Rattle.std.proofs.Common.{ap, subst, ⊎_elim, arith, inl, inr, bit_and}
+use Rattle.std.proofs.Common.{ap, subst, ⊎_elim, arith, inl, inr, bit_and, set}
 use Rattle.std.specs.Int.{bit_at}
 use Rattle.std.proofs.lemmas.Bool.{cases_lt, cases_eq}
 use Rattle.std.proofs.lemmas.List.{length-set, length-append}
@@ -186,3 +186,15 @@ module _ (n : ℕ) (masks : List ℕ) (signs : List Sign) (a b : ℕ) (s : Sign)
         ]
       ];
     }
+
+-- the table with both intersections, each with the table before, is narrowed
+pub written : (masks forms : List ℕ) (a b : ℕ) (s : Sign) (first second : ℕ) → 1 ≤ a → a < b
+    → first ≡ bit_and (get_or forms (a - 1) 0) (get_or masks (mask_place a b s) 0)
+    → second ≡ bit_and (get_or forms (b - 1) 0) (get_or masks (mask_place b a (opposite s)) 0)
+    → set (set forms (a - 1) first) (b - 1) second ≡ narrowed_forms masks a b s forms
+written masks forms a b s first second low order p q =
+    let cut = cut_entry forms a (get_or masks (mask_place a b s) 0) in
+    let other : get_or cut (b - 1) 0 ≡ get_or forms (b - 1) 0 =
+    entry_other forms a b _ low (omega (arith, low, order)) (λ e. omega (arith, e, order)) in
+    ap (λ x. set (set forms (a - 1) x) (b - 1) second) p
+    ∙ ap (set cut (b - 1)) (q ∙ ap (λ x. bit_and x (get_or masks (mask_place b a (opposite s)) 0)) (sym other))

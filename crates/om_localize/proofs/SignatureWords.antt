@@ -1,8 +1,10 @@
 -- Signatures in their six words: the words of a number, and the sign that the bits of a place stand for.
 --
--- Main definitions: Stands
--- Main results: top_word, bit_of_plus, bit_of_rest, length_in, few_in, plus_sign, minus_sign, no_sign, sign_in
+-- Main definitions: AreSound, Stands
+-- Main results: sound_of, top_word, bit_of_plus, bit_of_rest, length_in, few_in, plus_sign, minus_sign, no_sign,
+-- sign_in
 use Rattle.std.proofs.Common.{ℕ, ◌≡◌, ◌+◌, ◌-◌, ◌*◌, ◌/◌, ◌%◌, ◌<◌, ◌≤◌, ◌^◌, ◌∙◌, zero, suc, sym, ap, refl, inl, inr}
+use Rattle.std.proofs.Common.{subst}
 use Rattle.std.proofs.Common.{arith, List, [], ◌∷◌, ◌++◌, length, set, get_or}
 use Rattle.std.specs.Int.{bit_at}
 use Rattle.std.proofs.Math.Nat.{pow-suc, mul-le-mul_left}
@@ -19,7 +21,8 @@ use Rattle.om_signs.specs.Masks.{sign_at, sign_of, signs_of, mask_by, plus_mask,
 use Rattle.om_signs.specs.Masks.{is_minus-lt, length-signs_of, get_or-signs_of}
 use Rattle.om_signs.proofs.Views.{sign_of_is}
 use Rattle.om_localize.specs.declared.signature.TheConstants.{MAX_PAIRS, STEP}
-use Rattle.om_localize.specs.Signatures.{joined, unit, signs_in, AreWords, AreSignatureWords}
+use Rattle.om_localize.specs.Signatures.{joined, words_of, unit, signs_in, AreSignatureWords}
+use Rattle.om_localize.proofs.ThreeWords.{AreWords, words_back, joined_words, words_are}
 
 -- ---- the masks of a list
 
@@ -48,6 +51,48 @@ masks_stand xs = sym (fill_by_all (sign_at (plus_mask xs) (minus_mask xs)) xs (l
         (sym (sign_of_is (get_or xs i Zero)))
 
 -- ---- the words of a number
+
+-- what the words of signs are, part by part
+pub record AreSound (plus rest : List ℕ) : Type 0 where
+  pub few : joined rest / unit ≤ MAX_PAIRS
+  pub plus_words : AreWords plus
+  pub rest_words : AreWords rest
+  pub plus_is : plus_mask (signs_in plus rest) ≡ joined plus
+  pub minus_is : minus_mask (signs_in plus rest) ≡ joined rest % unit
+
+mask_small : (xs : List Sign) → length xs ≤ MAX_PAIRS → minus_mask xs < unit
+mask_small xs few =
+    let lt = mask-lt is_minus is_minus-lt xs in
+    let most : 2 ^ length xs ≤ 2 ^ MAX_PAIRS = pow_mono few in
+    omega arith
+
+pub sound_of : (plus rest : List ℕ) → AreSignatureWords plus rest → AreSound plus rest
+sound_of plus rest h = record {
+  few = rw (← number) h.few;
+  plus_words = subst AreWords (sym h.plus_are) (words_are _);
+  rest_words = subst AreWords (sym h.rest_are) (words_are _);
+  plus_is = sym (ap joined h.plus_are ∙ joined_words _);
+  minus_is = sym (ap (λ m. m % unit) (ap joined h.rest_are ∙ joined_words _)
+      ∙ mod-mul-add (length signs) unit (minus_mask signs) (mask_small signs h.few));
+}
+  where
+    signs : List Sign
+    signs = signs_in plus rest
+
+    number : length (signs_in plus rest) ≡ joined rest / unit
+    number = length-signs_of (joined plus) (joined rest % unit) (joined rest / unit)
+
+of_sound : (plus rest : List ℕ) → AreSound plus rest → AreSignatureWords plus rest
+of_sound plus rest h = record {
+  few = rw number h.few;
+  plus_are = sym (ap words_of h.plus_is ∙ words_back plus h.plus_words);
+  rest_are = sym (ap words_of (ap (λ k. k * unit + minus_mask (signs_in plus rest)) number
+      ∙ ap (λ m. joined rest / unit * unit + m) h.minus_is ∙ div-add-mod' (joined rest) unit)
+      ∙ words_back rest h.rest_words);
+}
+  where
+    number : length (signs_in plus rest) ≡ joined rest / unit
+    number = length-signs_of (joined plus) (joined rest % unit) (joined rest / unit)
 
 -- the last word has the number of signs above the bits of the mask
 pub top_word : (ws : List ℕ) → AreWords ws → get_or ws 2 0 / STEP ≡ joined ws / unit
@@ -170,21 +215,18 @@ pub words_stand : (plus rest : List ℕ) (xs : List Sign) → length xs ≤ MAX_
     → joined plus ≡ plus_mask xs → joined rest ≡ length xs * unit + minus_mask xs
     → Stands plus rest xs
 words_stand plus rest xs few pws rws p r = record {
-  sound = record {
+  sound = of_sound plus rest (record {
     few = rw quotient few;
     plus_words = pws;
     rest_words = rws;
     plus_is = ap plus_mask view ∙ sym p;
     minus_is = ap minus_mask view ∙ sym remainder;
-  };
+  });
   view = view;
 }
   where
     small : minus_mask xs < unit
-    small =
-        let lt = mask-lt is_minus is_minus-lt xs in
-        let most : 2 ^ length xs ≤ 2 ^ MAX_PAIRS = pow_mono few in
-        omega arith
+    small = mask_small xs few
 
     quotient : joined rest / unit ≡ length xs
     quotient = rw r (div-mul-add (length xs) unit (minus_mask xs) small)
@@ -202,7 +244,7 @@ length_in plus rest xs e = sym (length-signs_of (joined plus) (joined rest % uni
 
 pub few_in : (plus rest : List ℕ) (xs : List Sign) → AreSignatureWords plus rest → signs_in plus rest ≡ xs
     → length xs ≤ MAX_PAIRS
-few_in plus rest xs h e = rw (← length_in plus rest xs e) h.few
+few_in plus rest xs h e = subst (λ ys. length ys ≤ MAX_PAIRS) e h.few
 
 -- the sign with two bits
 pub plus_sign : (p m : ℕ) → 0 < p → Plus ≡ sign_of p m
@@ -224,9 +266,12 @@ pub sign_in : (plus rest : List ℕ) (i : ℕ) (xs : List Sign) → AreSignature
     → i < length xs
     → sign_of (get_or plus (i / 64) 0 / 2 ^ (i % 64) % 2) (get_or rest (i / 64) 0 / 2 ^ (i % 64) % 2) ≡ get_or xs i Zero
 sign_in plus rest i xs h e lt =
-    rw (bit_of_plus plus i h.plus_words few, bit_of_rest rest i h.rest_words few)
+    rw (bit_of_plus plus i sound.plus_words few, bit_of_rest rest i sound.rest_words few)
     (sym (get_or-signs_of (joined plus) (joined rest % unit) (joined rest / unit) i (rw (length_in plus rest xs e) lt))
     ∙ ap (λ ys. get_or ys i Zero) e)
   where
+    sound : AreSound plus rest
+    sound = sound_of plus rest h
+
     few : i < MAX_PAIRS
     few = let f = few_in plus rest xs h e in omega arith
