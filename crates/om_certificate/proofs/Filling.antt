@@ -1,12 +1,14 @@
 -- The table of the weights of all triples.
 --
--- Main results: none_filled and one_filled, the start and the step of filling it from the last weight on.
+-- Main results: none_filled, turn_filled and all_filled, the start, the step and the end of filling it from the last
+-- weight on; turn_triple
 use Rattle.std.specs.Prelude.{ℕ, ◌≡◌, ◌≢◌, ◌+◌, ◌-◌, ◌<◌, ◌≤◌, ℤ, pos, List, [], ◌∷◌, length, map, drop, All}
 use Rattle.std.specs.Prelude.{unsigned_abs}
-use Rattle.std.proofs.Common.{refl, sym, ◌∙◌, ap, subst, arith, inl, inr, ◌⊎◌, zero, suc}
+use Rattle.std.proofs.Common.{refl, sym, ◌∙◌, ap, subst, arith, inl, inr, ◌⊎◌, zero, suc, reverse}
 use Rattle.std.proofs.Math.ListN.{get_or, set}
 use Rattle.std.proofs.lemmas.Bool.{cases_eq, eq-eqb, ne_eqb, cases_lt}
-use Rattle.std.proofs.lemmas.List.{get_or-set_same, get_or-set_other, get_or_past, length-map}
+use Rattle.std.proofs.lemmas.List.{get_or-set_same, get_or-set_other, get_or_past, length-map, length-reverse}
+use Rattle.std.proofs.lemmas.List.{get_or-reverse}
 use Rattle.std.proofs.Math.Seq.{drop-cons}
 use Rattle.std.proofs.lemmas.Int.{to_z-of_z, fits_signed_from_abs}
 use mir.Syntax.{w128}
@@ -46,7 +48,7 @@ none_filled n ws j table l z = record {
     drop_past (x ∷ xs) (suc j) l = drop_past xs j (omega arith)
 
 -- the bracket of each weight is an increasing triple
-pub weight_triple : (m : SignMap) (ws : List Weight) (j : ℕ) (d : Weight) → AreOfBrackets m ws → j < length ws
+weight_triple : (m : SignMap) (ws : List Weight) (j : ℕ) (d : Weight) → AreOfBrackets m ws → j < length ws
     → IsTriple m.elements (bracket_of (get_or ws j d))
 weight_triple m ws j d e l =
     subst (IsTriple m.elements) (ap (λ xs. get_or xs j (bracket_of d)) (sym e) ∙ at_map ws j l)
@@ -105,7 +107,7 @@ one_filled n ws j p d table l t q room s h = record {
     small k (inr n') = subst (λ z. unsigned_abs z ≤ unsigned_abs MAX_WEIGHT)
         (sym (get_or-set_other table p k (get_or ws j d).value (pos 0) n')) (h.small k)
 
-pub fill_step :
+fill_step :
     (m : SignMap) (ws : List Weight) (i p : ℕ) (d : Weight) (table : List ℤ)
     → AreOfBrackets m ws
     → i < length ws
@@ -128,6 +130,38 @@ fill_step m ws i p d table e l q room small h =
     (subst (λ z. IsFilling m.elements ws (length ws - 1 - i) (set table p z)) (sym back)
     (one_filled m.elements ws (length ws - 1 - i) p d table within (weight_triple m ws (length ws - 1 - i) d e within) q
     room size (subst (λ k. IsFilling m.elements ws k table) before h)))
+
+-- the weight of a turn of a loop from the last weight to the first
+abbrev pub IsTurn : List Weight → ℕ → Weight → Type 0
+IsTurn ws i w = (i < length (reverse ws)) × (w ≡ get_or (reverse ws) i w)
+
+turn_below : (ws : List Weight) (i : ℕ) (w : Weight) → IsTurn ws i w → i < length ws
+turn_below ws i w t = let l = t.0 in let e = length-reverse ws in omega arith
+
+turn_is : (ws : List Weight) (i : ℕ) (w : Weight) → IsTurn ws i w → w ≡ get_or ws (length ws - 1 - i) w
+turn_is ws i w t = t.1 ∙ get_or-reverse ws i w (turn_below ws i w t)
+
+pub turn_triple : (m : SignMap) (ws : List Weight) (i : ℕ) (w : Weight) → AreOfBrackets m ws → IsTurn ws i w
+    → IsTriple m.elements (bracket_of w)
+turn_triple m ws i w h t = subst (λ x. IsTriple m.elements (bracket_of x)) (sym (turn_is ws i w t))
+    (weight_triple m ws (length ws - 1 - i) w h (let l = turn_below ws i w t in omega arith))
+
+pub turn_filled :
+    (m : SignMap) (ws : List Weight) (i p k : ℕ) (w : Weight) (table : List ℤ)
+    → AreOfBrackets m ws
+    → IsTurn ws i w
+    → p ≡ rank_of m.elements (bracket_of w)
+    → k ≡ i + 1
+    → choose m.elements 3 ≤ length table
+    → All (λ w. unsigned_abs w.value ≤ unsigned_abs MAX_WEIGHT) ws
+    → IsFilling m.elements ws (length ws - i) table
+    → IsFilling m.elements ws (length ws - k) (set table p (to_z w128 (of_z w128 w.value)))
+turn_filled m ws i p k w table h t q e room small f =
+    subst (λ k. IsFilling m.elements ws (length ws - k) (set table p (to_z w128 (of_z w128 w.value)))) (sym e)
+    (subst (λ x. IsFilling m.elements ws (length ws - (i + 1)) (set table p (to_z w128 (of_z w128 x.value))))
+    (sym (turn_is ws i w t))
+    (fill_step m ws i p w table h (turn_below ws i w t)
+    (q ∙ ap (λ x. rank_of m.elements (bracket_of x)) (turn_is ws i w t)) room small f))
 
 pub all_filled : (n : ℕ) (ws : List Weight) (j : ℕ) (table : List ℤ) → j ≡ 0 → choose n 3 ≤ length table
     → IsFilling n ws j table → IsWeightTable n ws table

@@ -117,8 +117,7 @@ fn fill(chi: &Chirotope, weights: &[Weight], table: &mut [i128])
     requires empty { All (λ z. z ≡ pos 0) table.old }
     ensures { IsWeightTable chi.now.elements weights.now table.new }
 {
-    for i in 0..weights.len() {
-        let weight = weights[weights.len() - 1 - i];
+    for weight in weights.iter().rev() {
         let bracket = Subset::triple(weight.a, weight.b, weight.c, chi.elements());
         table[bracket.rank() as usize] = weight.value;
     }

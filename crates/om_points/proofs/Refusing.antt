@@ -50,10 +50,11 @@ all_useful vs signs old new f h u r l d = record {
 }
 
 -- one of useful forms
-pub useful_at : (vs : List WholeVector) (signs : List Sign) (forms : List LinearForm) (i : ℕ) (f : LinearForm)
-    → i < length forms → All (IsUseful vs signs) forms → slice_get forms i ≡ Some f → IsUseful vs signs f
-useful_at vs signs forms i f l h e =
-    subst (IsUseful vs signs) (get_or_from_slice_get forms i f f e) (All-get_or (IsUseful vs signs) forms i f l h)
+pub useful_at : (vs : List WholeVector) (signs : List Sign) (forms items : List LinearForm) (i : ℕ) (f : LinearForm)
+    → items ≡ forms → All (IsUseful vs signs) forms → i < length items → f ≡ get_or items i f → IsUseful vs signs f
+useful_at vs signs forms items i f q h l e =
+    subst (IsUseful vs signs) (sym e)
+    (All-get_or (IsUseful vs signs) items i f l (subst (All (IsUseful vs signs)) (sym q) h))
 
 -- the refusers after a sound form is taken
 pub sound_taken : (vs : List WholeVector) (signs : List Sign) (old new : Refusers) (f : LinearForm)

@@ -40,13 +40,12 @@ impl Refusers {
             against: Form::open(),
             held: Form::open(),
         };
-        for k in 0..slopes.level.len() {
-            refusers.take(slopes.level.at(k));
+        for level in slopes.level.as_slice() {
+            refusers.take(*level);
         }
-        for i in 0..slopes.rising.len() {
-            let rising = slopes.rising.at(i);
-            for j in 0..slopes.falling.len() {
-                if let Some(form) = rising.without_z(slopes.falling.at(j)) {
+        for rising in slopes.rising.as_slice() {
+            for falling in slopes.falling.as_slice() {
+                if let Some(form) = rising.without_z(*falling) {
                     refusers.take(form);
                 }
             }

@@ -38,19 +38,11 @@ impl Forms {
         }
     }
 
-    /// The number of forms.
-    pub fn len(&self) -> u8
-        ensures { result ≡ length self.now }
+    /// The forms as a slice.
+    pub fn as_slice(&self) -> &[Form]
+        ensures { result.now ≡ self.now }
     {
-        self.len
-    }
-
-    /// The form at an index, counted from 0 and below the length.
-    pub fn at(&self, i: u8) -> Form
-        requires { i < length self.now }
-        ensures { slice_get self.now i ≡ Some result }
-    {
-        self.forms[i as usize]
+        &self.forms[..self.len as usize]
     }
 
     /// Adds a form at the end, if there is room.

@@ -1,7 +1,7 @@
 -- The products of the first rows with a column, one after another.
 --
--- Main results: first_coefficient, one_coefficient_more
-use Rattle.std.specs.Prelude.{ℕ, ◌≡◌, ◌+◌, ℤ, pos, List, [], ◌∷◌, ◌++◌, length}
+-- Main results: first_coefficient, coefficient_more
+use Rattle.std.specs.Prelude.{ℕ, ◌≡◌, ◌+◌, ◌-◌, ◌≤◌, ℤ, pos, List, [], ◌∷◌, ◌++◌, length}
 use Rattle.std.proofs.Common.{arith, sym, ◌∙◌, ap, subst, inl, inr, get_or}
 use Rattle.std.proofs.lemmas.Bool.{cases_eq}
 use Rattle.std.proofs.lemmas.List.{get_or_push, get_or_append_left, length_push}
@@ -24,7 +24,7 @@ first_coefficient s c price ts narrow e p = record {
 }
 
 -- the product of row k + 1 after those of the rows before it
-pub one_coefficient_more : (s : State) (c : Column) (k : ℕ) (row ts us : List ℤ) (t : ℤ) → row ≡ row_of s (k + 1)
+one_coefficient_more : (s : State) (c : Column) (k : ℕ) (row ts us : List ℤ) (t : ℤ) → row ≡ row_of s (k + 1)
     → IsNarrow (product row c) → t ≡ product row c → us ≡ ts ++ stored t ∷ [] → AreCoefficients k s c ts
     → AreCoefficients (k + 1) s c us
 one_coefficient_more s c k row ts us t r narrow e pushed h = record {
@@ -43,3 +43,12 @@ one_coefficient_more s c k row ts us t r narrow e pushed h = record {
   where
     here : t ≡ coefficient s (k + 1) c
     here = e ∙ ap (λ xs. product xs c) r
+
+-- the product of row n after those of the rows before it
+pub coefficient_more : (s : State) (c : Column) (i n : ℕ) (row ts us : List ℤ) (t : ℤ) → 1 ≤ i → i ≡ n
+    → row ≡ row_of s i → IsNarrow (product row c) → t ≡ product row c → us ≡ ts ++ stored t ∷ []
+    → AreCoefficients (i - 1) s c ts → AreCoefficients n s c us
+coefficient_more s c i n row ts us t l q r narrow e pushed h =
+    let f : i - 1 + 1 ≡ i = omega arith in
+    subst (λ k. AreCoefficients k s c us) (f ∙ q)
+    (one_coefficient_more s c (i - 1) row ts us t (r ∙ ap (row_of s) (sym f)) narrow e pushed h)

@@ -1,4 +1,4 @@
-use Rattle.std.proofs.Common.{◌∙◌, sym, subst, false}
+use Rattle.std.proofs.Common.{◌∙◌, sym, subst, false, rules}
 use Rattle.om_certificate.specs.declared.entry.Entry.{Entry}
 use Rattle.std.proofs.lemmas.List.{take_all}
 use Rattle.om_certificate.specs.Tables.{AreCounts}
@@ -12,12 +12,6 @@ no_entry =
 pub loop-entry-init : goal.loop-entry-init
 loop-entry-init c = none_counted c.args.chi.now.elements c.args.entries.now c.args.small.now c.args.big.now
     c.requires.small_empty c.requires.big_empty
-
-pub raise-requires-clause-fits : goal.raise-requires-clause-fits
-raise-requires-clause-fits c =
-    one_fits c.args.chi.now.elements c.args.entries.now c.loop-entry.entry-index _ c.loop-entry.small
-    c.loop-entry-test.true c.requires.limits.few
-    (c.requires.limits.counted c.loop-entry.entry-index _ c.loop-entry-test.true).high c.loop-entry.invariant.small_most
 
 pub loop-entry-preserved : goal.loop-entry-preserved
 loop-entry-preserved c =
@@ -35,51 +29,41 @@ pub returns : goal.returns
 returns c = subst (λ es. AreCounts c.args.chi.now.elements es c.loop-entry.small c.loop-entry.big)
     (take_all c.loop-entry.entry-index c.args.entries.now c.loop-entry-test.false) c.loop-entry.invariant.counts
 
-pub raise-requires-clause-first : goal.raise-requires-clause-first
-raise-requires-clause-first c = c.sides-small_first.ensures.small_first.size
+pub sides-small_first-requires : goal.sides-small_first-requires
+sides-small_first-requires c =
+    let lawful = c.requires.lawful c.loop-entry.entry-index no_entry c.loop-entry-test.true in
+    record {
+      low = search rules;
+      high = search rules;
+      distinct = lawful_distinct c.elements.result c.args.chi.now _ c.elements.ensures.value lawful;
+      small = lawful.two.first;
+      big = lawful.two.second;
+    }
 
-pub raise-requires-clause-second : goal.raise-requires-clause-second
-raise-requires-clause-second c = c.sides-small_first.ensures.small_second.size
+pub raise-requires : goal.raise-requires
+raise-requires c =
+    let are = c.sides-small_first.ensures in
+    record {
+      first = are.small_first.size;
+      second = are.small_second.size;
+      same = are.small_second.n ∙ sym are.small_first.n;
+      room = rw (are.small_first.n, c.elements.ensures.value, c.loop-entry.auto.small) c.requires.small_room;
+      fits = one_fits c.args.chi.now.elements c.args.entries.now c.loop-entry.entry-index _ c.loop-entry.small
+          c.loop-entry-test.true c.requires.limits.few
+          (c.requires.limits.counted c.loop-entry.entry-index _ c.loop-entry-test.true).high
+          c.loop-entry.invariant.small_most;
+    }
 
-pub raise-requires-clause-same : goal.raise-requires-clause-same
-raise-requires-clause-same c =
-    c.sides-small_first.ensures.small_second.n ∙ sym c.sides-small_first.ensures.small_first.n
-
-pub raise-requires-clause-room : goal.raise-requires-clause-room
-raise-requires-clause-room c =
-    rw (c.sides-small_first.ensures.small_first.n, c.elements.ensures.value, c.loop-entry.auto.small)
-    c.requires.small_room
-
-pub raise-requires-in-loop-entry-clause-first : goal.raise-requires-in-loop-entry-clause-first
-raise-requires-in-loop-entry-clause-first c = c.sides-small_first.ensures.big_first.size
-
-pub raise-requires-in-loop-entry-clause-second : goal.raise-requires-in-loop-entry-clause-second
-raise-requires-in-loop-entry-clause-second c = c.sides-small_first.ensures.big_second.size
-
-pub raise-requires-in-loop-entry-clause-same : goal.raise-requires-in-loop-entry-clause-same
-raise-requires-in-loop-entry-clause-same c =
-    c.sides-small_first.ensures.big_second.n ∙ sym c.sides-small_first.ensures.big_first.n
-
-pub raise-requires-in-loop-entry-clause-room : goal.raise-requires-in-loop-entry-clause-room
-raise-requires-in-loop-entry-clause-room c =
-    rw (c.sides-small_first.ensures.big_first.n, c.elements.ensures.value, c.loop-entry.auto.big) c.requires.big_room
-
-pub raise-requires-in-loop-entry-clause-fits : goal.raise-requires-in-loop-entry-clause-fits
-raise-requires-in-loop-entry-clause-fits c =
-    one_fits c.args.chi.now.elements c.args.entries.now c.loop-entry.entry-index _ c.loop-entry.big
-    c.loop-entry-test.true c.requires.limits.few
-    (c.requires.limits.counted c.loop-entry.entry-index no_entry c.loop-entry-test.true).high
-    c.loop-entry.invariant.big_most
-
-pub sides-small_first-requires-clause-distinct : goal.sides-small_first-requires-clause-distinct
-sides-small_first-requires-clause-distinct c =
-    lawful_distinct c.elements.result c.args.chi.now _ c.elements.ensures.value
-    (c.requires.lawful c.loop-entry.entry-index no_entry c.loop-entry-test.true)
-
-pub sides-small_first-requires-clause-small : goal.sides-small_first-requires-clause-small
-sides-small_first-requires-clause-small c =
-    (c.requires.lawful c.loop-entry.entry-index no_entry c.loop-entry-test.true).two.first
-
-pub sides-small_first-requires-clause-big : goal.sides-small_first-requires-clause-big
-sides-small_first-requires-clause-big c =
-    (c.requires.lawful c.loop-entry.entry-index no_entry c.loop-entry-test.true).two.second
+pub raise-requires-in-loop-entry : goal.raise-requires-in-loop-entry
+raise-requires-in-loop-entry c =
+    let are = c.sides-small_first.ensures in
+    record {
+      first = are.big_first.size;
+      second = are.big_second.size;
+      same = are.big_second.n ∙ sym are.big_first.n;
+      room = rw (are.big_first.n, c.elements.ensures.value, c.loop-entry.auto.big) c.requires.big_room;
+      fits = one_fits c.args.chi.now.elements c.args.entries.now c.loop-entry.entry-index _ c.loop-entry.big
+          c.loop-entry-test.true c.requires.limits.few
+          (c.requires.limits.counted c.loop-entry.entry-index no_entry c.loop-entry-test.true).high
+          c.loop-entry.invariant.big_most;
+    }

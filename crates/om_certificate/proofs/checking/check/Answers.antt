@@ -1,10 +1,6 @@
-use Rattle.std.proofs.Common.{sym, ◌∙◌, subst, Err}
-use Rattle.std.specs.Prelude.{OnOk, IfErr}
+use Rattle.std.proofs.Common.{sym, ◌∙◌, Err}
 use Rattle.om_certificate.specs.declared.evidence.Evidence.TheVariants.{Vectors, Balanced, Weights}
 use Rattle.om_certificate.specs.declared.cert_refused.CertRefused.TheVariants.{NotRank3}
-use Rattle.om_certificate.specs.Certificates.{IsCertificate}
-use Rattle.om_certificate.specs.Weights.{AreWeights}
-use Rattle.om_certificate.specs.Refusals.{IsEntryRefusal, IsWeightRefusal}
 use Rattle.om_certificate.proofs.Refusing.{settled_refused, matched_accepted, matched_refused, matched_shown}
 use Rattle.om_certificate.proofs.Refusing.{rank_refused}
 use Rattle.om_certificate.proofs.checking.check.Goals as goal
@@ -33,52 +29,40 @@ pub returns-in-Balanced-clause-accepted : goal.returns-in-Balanced-clause-accept
 returns-in-Balanced-clause-accepted c =
     matched_accepted c.args.chi.now c.args.evidence.now (Balanced c.in-Balanced.entries) c.in-Balanced.is
     c.check_entries.result (sym c.rank.ensures.value ∙ c.if-rank-ne3.false)
-    (subst (λ es. OnOk c.check_entries.result (IsCertificate c.args.chi.now es)) c.as_slice.ensures
-    c.check_entries.ensures.accepted)
-    (subst (λ es. IfErr c.check_entries.result (IsEntryRefusal c.args.chi.now es)) c.as_slice.ensures
-    c.check_entries.ensures.refused)
+    (rw (← c.as_slice.ensures) c.check_entries.ensures.accepted)
+    (rw (← c.as_slice.ensures) c.check_entries.ensures.refused)
 
 pub returns-in-Balanced-clause-refused : goal.returns-in-Balanced-clause-refused
 returns-in-Balanced-clause-refused c =
     matched_refused c.args.chi.now c.args.evidence.now (Balanced c.in-Balanced.entries) c.in-Balanced.is
     c.check_entries.result (sym c.rank.ensures.value ∙ c.if-rank-ne3.false)
-    (subst (λ es. OnOk c.check_entries.result (IsCertificate c.args.chi.now es)) c.as_slice.ensures
-    c.check_entries.ensures.accepted)
-    (subst (λ es. IfErr c.check_entries.result (IsEntryRefusal c.args.chi.now es)) c.as_slice.ensures
-    c.check_entries.ensures.refused)
+    (rw (← c.as_slice.ensures) c.check_entries.ensures.accepted)
+    (rw (← c.as_slice.ensures) c.check_entries.ensures.refused)
 
 pub returns-in-Balanced-clause-shown : goal.returns-in-Balanced-clause-shown
 returns-in-Balanced-clause-shown c =
     matched_shown c.args.chi.now c.args.evidence.now (Balanced c.in-Balanced.entries) c.in-Balanced.is
     c.check_entries.result (sym c.rank.ensures.value ∙ c.if-rank-ne3.false)
-    (subst (λ es. OnOk c.check_entries.result (IsCertificate c.args.chi.now es)) c.as_slice.ensures
-    c.check_entries.ensures.accepted)
-    (subst (λ es. IfErr c.check_entries.result (IsEntryRefusal c.args.chi.now es)) c.as_slice.ensures
-    c.check_entries.ensures.refused)
+    (rw (← c.as_slice.ensures) c.check_entries.ensures.accepted)
+    (rw (← c.as_slice.ensures) c.check_entries.ensures.refused)
 
 pub returns-in-Weights-clause-accepted : goal.returns-in-Weights-clause-accepted
 returns-in-Weights-clause-accepted c =
     matched_accepted c.args.chi.now c.args.evidence.now (Weights c.in-Weights.weights) c.in-Weights.is
     c.check_weights.result (sym c.rank.ensures.value ∙ c.if-rank-ne3.false)
-    (subst (λ ws. OnOk c.check_weights.result (AreWeights c.args.chi.now ws)) c.as_slice-in-Weights.ensures
-    c.check_weights.ensures.accepted)
-    (subst (λ ws. IfErr c.check_weights.result (IsWeightRefusal c.args.chi.now ws)) c.as_slice-in-Weights.ensures
-    c.check_weights.ensures.refused)
+    (rw (← c.as_slice-in-Weights.ensures) c.check_weights.ensures.accepted)
+    (rw (← c.as_slice-in-Weights.ensures) c.check_weights.ensures.refused)
 
 pub returns-in-Weights-clause-refused : goal.returns-in-Weights-clause-refused
 returns-in-Weights-clause-refused c =
     matched_refused c.args.chi.now c.args.evidence.now (Weights c.in-Weights.weights) c.in-Weights.is
     c.check_weights.result (sym c.rank.ensures.value ∙ c.if-rank-ne3.false)
-    (subst (λ ws. OnOk c.check_weights.result (AreWeights c.args.chi.now ws)) c.as_slice-in-Weights.ensures
-    c.check_weights.ensures.accepted)
-    (subst (λ ws. IfErr c.check_weights.result (IsWeightRefusal c.args.chi.now ws)) c.as_slice-in-Weights.ensures
-    c.check_weights.ensures.refused)
+    (rw (← c.as_slice-in-Weights.ensures) c.check_weights.ensures.accepted)
+    (rw (← c.as_slice-in-Weights.ensures) c.check_weights.ensures.refused)
 
 pub returns-in-Weights-clause-shown : goal.returns-in-Weights-clause-shown
 returns-in-Weights-clause-shown c =
     matched_shown c.args.chi.now c.args.evidence.now (Weights c.in-Weights.weights) c.in-Weights.is
     c.check_weights.result (sym c.rank.ensures.value ∙ c.if-rank-ne3.false)
-    (subst (λ ws. OnOk c.check_weights.result (AreWeights c.args.chi.now ws)) c.as_slice-in-Weights.ensures
-    c.check_weights.ensures.accepted)
-    (subst (λ ws. IfErr c.check_weights.result (IsWeightRefusal c.args.chi.now ws)) c.as_slice-in-Weights.ensures
-    c.check_weights.ensures.refused)
+    (rw (← c.as_slice-in-Weights.ensures) c.check_weights.ensures.accepted)
+    (rw (← c.as_slice-in-Weights.ensures) c.check_weights.ensures.refused)

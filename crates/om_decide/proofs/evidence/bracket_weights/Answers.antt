@@ -38,17 +38,17 @@ loop-bracket-preserved c = (
   search rules,
   c.in_ok-push.ensures.ok ∙ ap (λ ws. ws ++ c.bracket_weight.result ∷ []) c.loop-bracket.invariant.2
       ∙ ap (λ w. map (λ p. weight_on p.0.elements p.1) c.loop-bracket.yielded ++ w ∷ [])
-      (c.bracket_weight.ensures ∙ ap (weight_on c.in-Some.bracket.elements) (stored-narrow c.in-Some.value (search rules)))
-      ∙ sym (map-append (λ p. weight_on p.0.elements p.1) c.loop-bracket.yielded ((c.in-Some.bracket, c.in-Some.value) ∷ [])),
+      (c.bracket_weight.ensures
+      ∙ ap (weight_on c.in-Some.bracket.elements) (stored-narrow c.in-Some.value (search rules)))
+      ∙ sym (map-append (λ p. weight_on p.0.elements p.1) c.loop-bracket.yielded
+      ((c.in-Some.bracket, c.in-Some.value) ∷ [])),
 )
 
 pub bracket_weight-requires : goal.bracket_weight-requires
 bracket_weight-requires c =
     let turn =
-    YieldsList-turn
-    (YieldsList-at c.into_iter-bracket-iterator.ensures.into_iter_gives
-    (YieldsList-from_zip
-    (YieldsList-at c.zip-bracket-items.ensures.first
+    YieldsList-turn (YieldsList-at c.into_iter-bracket-iterator.ensures.into_iter_gives
+    (YieldsList-from_zip (YieldsList-at c.zip-bracket-items.ensures.first
     (YieldsList-from_filter _ (λ b. is_nonzero (chi_of c.args.chi.now b.elements))
     (gives_all_sets c.args.chi.now.elements 3
     (all_sets_of {r = 3} {q = 3} (c.filter-nonzero.ensures.source ∙ c.all.ensures.sets) c.elements.ensures.value refl))
@@ -64,10 +64,8 @@ bracket_weight-requires c =
 pub returns : goal.returns
 returns c =
     let end =
-    YieldsList-end
-    (YieldsList-at c.into_iter-bracket-iterator.ensures.into_iter_gives
-    (YieldsList-from_zip
-    (YieldsList-at c.zip-bracket-items.ensures.first
+    YieldsList-end (YieldsList-at c.into_iter-bracket-iterator.ensures.into_iter_gives
+    (YieldsList-from_zip (YieldsList-at c.zip-bracket-items.ensures.first
     (YieldsList-from_filter _ (λ b. is_nonzero (chi_of c.args.chi.now b))
     (gives_all_subsets c.args.chi.now.elements 3
     (all_sets_of {r = 3} {q = 3} (c.filter-nonzero.ensures.source ∙ c.all.ensures.sets) c.elements.ensures.value refl))
@@ -77,4 +75,5 @@ returns c =
     (YieldsList-from_slice c.args.values.now
     (ap (λ i. iter_rest i) c.copied.ensures.source ∙ c.iter.ensures.rest ∙ c.as_slice.ensures))))))
     c.loop-bracket.yielded _ c.loop-bracket.yielded_by _ _ c.in-None.is c.next.ensures.steps in
-    c.loop-bracket.invariant.2 ∙ weights_at_end c.loop-bracket.yielded (nonzero_brackets c.args.chi.now) c.args.values.now end.0
+    c.loop-bracket.invariant.2
+    ∙ weights_at_end c.loop-bracket.yielded (nonzero_brackets c.args.chi.now) c.args.values.now end.0

@@ -1,11 +1,11 @@
 use Rattle.om_points.specs.Refusers.{AreSound}
 use Rattle.om_points.proofs.refusers.Refusers.of.Given as goal
 
-abbrev pub invariant-loop-k : goal.invariant-loop-k
-invariant-loop-k l = AreSound l.placing l.wanted l.refusers
+abbrev pub invariant-loop-level : goal.invariant-loop-level
+invariant-loop-level l = AreSound l.placing l.wanted l.refusers
 
-abbrev pub invariant-loop-i : goal.invariant-loop-i
-invariant-loop-i l = AreSound l.placing l.wanted l.refusers
+abbrev pub invariant-loop-rising : goal.invariant-loop-rising
+invariant-loop-rising l = AreSound l.placing l.wanted l.refusers
 
-abbrev pub invariant-loop-j : goal.invariant-loop-j
-invariant-loop-j l = AreSound l.placing l.wanted l.refusers
+abbrev pub invariant-loop-falling : goal.invariant-loop-falling
+invariant-loop-falling l = AreSound l.placing l.wanted l.refusers
