@@ -23,3 +23,14 @@ pub enum NotRead {
     #[error("out of memory")]
     Memory,
 }
+
+impl From<NoMemory> for NotRead {
+    ghost use Rattle.std.specs.Prelude.{◌≡◌};
+    ghost use Rattle.om_callers.specs.declared.not_read.NotRead.TheVariants.{Memory};
+
+    ghost from_gives = { λ _ e. e ≡ Memory };
+
+    fn from(_: NoMemory) -> Self {
+        NotRead::Memory
+    }
+}

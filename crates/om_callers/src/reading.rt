@@ -57,10 +57,10 @@ fn covectors_of_map<R: Threads + Sync>(
     match check(rt, raw) {
         Ok(chirotope) => match chirotope_to_covectors(alloc, &chirotope) {
             Ok(covectors) => Ok(covectors),
-            Err(ConvertError::TooMany { limit }) => Err(NotRead::TooMany { limit }),
-            // a list of covectors has no values
-            Err(ConvertError::TooWide { .. }) => unreachable!(),
-            Err(ConvertError::Memory) => Err(NotRead::Memory),
+            Err(error) => match error {
+                ConvertError::TooMany { limit } => Err(NotRead::TooMany { limit }),
+                _ => Err(NotRead::from(error.memory_alone())),
+            },
         },
         Err(bad) => Err(NotRead::Axioms(bad.why)),
     }

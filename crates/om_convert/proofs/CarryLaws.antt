@@ -43,7 +43,7 @@ use Rattle.om_matroid.proofs.ExchangeLaws.{symmetric_exchange}
 use Rattle.om_denotation.proofs.ChirotopeBridge.{tuples_of}
 use Rattle.om_denotation.proofs.ListFunctions.{place_function}
 use Rattle.om_convert.specs.Hitting.{IsNonzeroOn, MeetsEach, MissesOne, IsNormalOf, carried_sign, IsCarried}
-use Rattle.om_convert.specs.Hitting.{HasNoneCarried, AreFirstSigns}
+use Rattle.om_convert.specs.Hitting.{HasNoneCarried, AreFirstSigns, IsCarrier, replaced}
 use Rattle.om_convert.proofs.HittingLaws.{vanishing_same}
 use Rattle.om_convert.proofs.SetLaws.{exchanged_before, first_new, IsFirstNew}
 use Rattle.om_convert.proofs.MeetingBases.{parity_nonzero, carry, met_list, om, of_member, basis_meets, meets_all}
@@ -224,6 +224,12 @@ earlier_place n t e h list inside low below fresh =
     (lexicographic 1 n (with_element h (without_element e t)) t lawful list size).0
     (exchanged_before 1 n e h t list inside below fresh)
 
+-- a set from which a sign is carried to t comes before t, for `sign_over`
+pub carrier_earlier : (n : ℕ) (members : List (List Sign)) (t : List ℕ) (e h : ℕ) (y : List Sign) → IsSubsetFrom 1 n t
+    → IsMember e t → IsCarrier members t e h y → rank_of n (replaced h e t) < rank_of n t
+carrier_earlier n members t e h y list inside c =
+    earlier_place n t e h list inside c.low c.below (λ m. c.missed (h, m, c.nonzero))
+
 pub zero_sign : (n : ℕ) (members : List (List Sign)) (t : List ℕ) (k : ℕ) → IsSubsetFrom 1 n t → rank_of n t ≡ k
     → MissesOne (Contains members) t → (m : SignMap) → IsNormalOf n members m → m.rank ≡ length t
     → Zero ≡ at m.signs k
@@ -249,20 +255,20 @@ carried_value n members before t e s list each at_element first carried m h r =
         → s ≡ at m.signs (length before)
     inner l p f c g =
         let basis = meeting_basis m.elements members m g t l (sym r) each in
-        let fresh = other_fresh m.elements members m g t l (sym r) e c.inside basis c.vector c.member c.missed c.other
-        c.nonzero in
+        let fresh = other_fresh m.elements members m g t l (sym r) e c.inside basis c.vector c.carrier.member
+        c.carrier.missed c.other c.carrier.nonzero in
         let b = members_from 1 m.elements e t l c.inside in
         let high = b.1 in
-        let low = c.low in
-        let below = c.below in
+        let low = c.carrier.low in
+        let below = c.carrier.below in
         let few : rank_of m.elements (with_element c.other (without_element e t)) < length before =
         subst (λ k. rank_of m.elements (with_element c.other (without_element e t)) < k) p
         (earlier_place m.elements t e c.other l c.inside low below fresh) in
         c.value
         ∙ ap (carried_sign (without_element e t) e c.other c.vector)
         (f m g r (rank_of m.elements (with_element c.other (without_element e t))) few)
-        ∙ carried_is m.elements members m g t l (sym r) e c.inside basis c.vector c.member c.missed c.other low
-        (omega (arith, high, below)) c.nonzero
+        ∙ carried_is m.elements members m g t l (sym r) e c.inside basis c.vector c.carrier.member c.carrier.missed
+        c.other low (omega (arith, high, below)) c.carrier.nonzero
         ∙ ap (at m.signs) p
 
 pub plus_sign : (n : ℕ) (members : List (List Sign)) (t : List ℕ) (k : ℕ) → IsSubsetFrom 1 n t → MeetsEach members t

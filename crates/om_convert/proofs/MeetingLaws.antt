@@ -1,7 +1,7 @@
 -- The tests and loops that find sets which meet every vector.
 --
 -- Main definitions: IsNarrowedTo
--- Main results: meets_test, passed, met_more, met_all, narrowed_start, narrowed_more, narrowed_least, all_meet
+-- Main results: meets_test, passed, met_more, met_all, narrowed_start, narrowed_more, narrowed_minimal, all_meet
 use Rattle.std.specs.Prelude.{ℕ, ◌≡◌, ◌≢◌, ◌+◌, ◌<◌, ◌≤◌, ◌-◌, ◌↔◌, ◌⊎◌, List, length, refl, not, nat_eq, true, false}
 use Rattle.std.specs.Prelude.{IsTrue, bit_and, slice_index_or}
 use Rattle.std.specs.Int.{bit_at}
@@ -28,7 +28,7 @@ use Rattle.om_members.proofs.ScanLaws.{nth_read, nth_contained}
 use Rattle.om_denotation.proofs.ChirotopeBridge.{list_supported}
 use Rattle.om_denotation.proofs.ListFunctions.{place_function}
 use Rattle.om_denotation.proofs.FunctionLaws.{nonzero_element}
-use Rattle.om_convert.specs.Hitting.{IsNonzeroOn, MeetsFamily, MissesOne, IsNonzeroMember, IsNarrowed, IsLeastMeeting}
+use Rattle.om_convert.specs.Hitting.{IsNonzeroOn, MeetsFamily, MissesOne, IsNonzeroMember, IsNarrowed, IsMinimalMeeting}
 use Rattle.om_convert.proofs.HittingLaws.{meets_or_zero}
 use Rattle.om_convert.proofs.MeetingBases.{met_list}
 
@@ -106,7 +106,7 @@ pub record IsNarrowedTo (n : ℕ) (P : List Sign → Type 0) (e k : ℕ) (s : Li
   pub n_is : k ≡ n
   pub lawful : IsSubsetFrom 1 n s
   pub each : MeetsFamily P s
-  pub least : (f : ℕ) → IsMember f s → f < e → MissesOne P (without_element f s)
+  pub minimal : (f : ℕ) → IsMember f s → f < e → MissesOne P (without_element f s)
 
 pub narrowed_start : (n : ℕ) (P : List Sign → Type 0) (k : ℕ) (s : List ℕ) → k ≡ n → IsSubsetFrom 1 n s
     → s ≡ first_of 1 n → MeetsFamily P (first_of 1 n) → IsNarrowedTo n P 1 k s
@@ -114,7 +114,7 @@ narrowed_start n P k s q list e each = record {
   n_is = q;
   lawful = list;
   each = subst (MeetsFamily P) (sym e) each;
-  least = λ f m lt. let low = (members_from 1 n f s list m).0 in absurd (omega (arith, low, lt));
+  minimal = λ f m lt. let low = (members_from 1 n f s list m).0 in absurd (omega (arith, low, lt));
 }
 
 pub narrowed_more : (n : ℕ) (P : List Sign → Type 0) (e k j : ℕ) (s t : List ℕ) → IsNarrowedTo n P e k s → j ≡ k
@@ -123,10 +123,10 @@ narrowed_more n P e k j s t h q list (inl (w, each)) = record {
   n_is = q ∙ h.n_is;
   lawful = subst (λ i. IsSubsetFrom 1 i t) (q ∙ h.n_is) list;
   each = each;
-  least = λ f m lt.
+  minimal = λ f m lt.
       let b = (members_without e f s).0 (subst (IsMember f) w m) in
       let ne = b.0 in
-      let y = h.least f b.1 (omega arith) in
+      let y = h.minimal f b.1 (omega arith) in
       (y.0, y.1, λ met. y.2 (met.0, passed f met.0 met.1, met.2));
 }
   where
@@ -137,17 +137,17 @@ narrowed_more n P e k j s t h q list (inr (w, misses)) = record {
   n_is = q ∙ h.n_is;
   lawful = subst (λ i. IsSubsetFrom 1 i t) (q ∙ h.n_is) list;
   each = subst (MeetsFamily P) (sym w) h.each;
-  least = λ f m lt. subst (λ l. MissesOne P (without_element f l)) (sym w) (elim (cases_eq f e) [
+  minimal = λ f m lt. subst (λ l. MissesOne P (without_element f l)) (sym w) (elim (cases_eq f e) [
     | inl p ↦ subst (λ i. MissesOne P (without_element i s)) (sym p) misses
-    | inr ne ↦ h.least f (subst (IsMember f) w m) (omega arith)
+    | inr ne ↦ h.minimal f (subst (IsMember f) w m) (omega arith)
   ]);
 }
 
-pub narrowed_least : (n : ℕ) (P : List Sign → Type 0) (e k : ℕ) (s : List ℕ) → n + 1 ≤ e → IsNarrowedTo n P e k s
-    → IsLeastMeeting P s
-narrowed_least n P e k s le h = record {
+pub narrowed_minimal : (n : ℕ) (P : List Sign → Type 0) (e k : ℕ) (s : List ℕ) → n + 1 ≤ e → IsNarrowedTo n P e k s
+    → IsMinimalMeeting P s
+narrowed_minimal n P e k s le h = record {
   each = h.each;
-  least = λ f m. let high = (members_from 1 n f s h.lawful m).1 in h.least f m (omega (arith, high, le));
+  minimal = λ f m. let high = (members_from 1 n f s h.lawful m).1 in h.minimal f m (omega (arith, high, le));
 }
 
 -- ---- all elements

@@ -1,8 +1,8 @@
--- The rank as the size of a least set that meets each vector of a family.
+-- The rank as the size of a minimal set that meets each vector of a family.
 --
 -- Main definitions: HasCocircuitIn, the support of some cocircuit stands in that of a vector.
--- Main results: a least set that meets each vector of a family has as many elements as the rank, where the cocircuits
--- are of the family and each vector of it has one in its support (least_rank); the rank of what some cocircuits
+-- Main results: a minimal set that meets each vector of a family has as many elements as the rank, where the cocircuits
+-- are of the family and each vector of it has one in its support (minimal_rank); the rank of what some cocircuits
 -- (rank_of_cocircuits), circuits (rank_of_circuits) and covectors (rank_of_covectors) denote; the rank of the dual of
 -- some circuits (rank_of_dual).
 -- Reference: Björner, Las Vergnas, Sturmfels, White and Ziegler, Oriented Matroids, chapter 3.
@@ -44,14 +44,14 @@ use Rattle.om_denotation.proofs.FunctionLaws.{nonzero_element, nonzero_list_not_
 use Rattle.om_denotation.proofs.ListExistence.{of_covectors}
 use Rattle.om_denotation.proofs.NormalForms.{normal_exists, normal_covectors, normal_rank, normal_elements}
 use Rattle.om_denotation.proofs.Uniqueness.{same_by_covectors, normal_axioms}
-use Rattle.om_convert.specs.Hitting.{IsNonzeroOn, MeetsFamily, IsNonzeroMember, IsLeastMeeting, IsNormalOf}
+use Rattle.om_convert.specs.Hitting.{IsNonzeroOn, MeetsFamily, IsNonzeroMember, IsMinimalMeeting, IsNormalOf}
 use Rattle.om_convert.specs.Hitting.{IsRankOfNormal}
 use Rattle.om_convert.specs.Ranks.{IsRankFor}
 use Rattle.om_convert.proofs.HittingLaws.{Meets, sharp_base}
 use Rattle.om_convert.proofs.MeetingBases.{met_function, met_list}
 use Rattle.om_convert.proofs.NormalSigns.{normal_of, denotes, has_circuits}
 
--- ---- least sets
+-- ---- minimal sets
 
 module _ (m : SignMap) (om : IsChirotope m) where
   abbrev E : List ℕ
@@ -76,8 +76,8 @@ module _ (m : SignMap) (om : IsChirotope m) where
 
   module _ (P : List Sign → Type 0) (all : (X : List Sign) → IsCocircuitOfChirotope m X → P X)
       (part : (X : List Sign) → P X → HasCocircuitIn X) where
-    pub least_rank : (s : List ℕ) → IsSubsetFrom 1 m.elements s → IsLeastMeeting P s → length s ≡ m.rank
-    least_rank s list l =
+    pub minimal_rank : (s : List ℕ) → IsSubsetFrom 1 m.elements s → IsMinimalMeeting P s → length s ≡ m.rank
+    minimal_rank s list l =
         let each = meets_functions s list (λ X x. l.each X (all X x)) in
         (on_tuples_tuple m.elements m.rank (chi_of m) s
         (sharp_base E chi chirotope s each (increasing_distinct s (increasing_subset m.elements s list))
@@ -86,7 +86,7 @@ module _ (m : SignMap) (om : IsChirotope m) where
         sharp : (e : ℕ) → IsMember e s → (F : SignVector) × IsCocircuit chi F
             × ((g : ℕ) → IsMember g s → g ≢ e → F g ≡ Zero)
         sharp e k =
-            let y = l.least e k in
+            let y = l.minimal e k in
             let c = part y.0 y.1 in
             let missed : IsNonzeroOn (without_element e s) c.0 → ⊥ = (λ met. y.2 (met.0, met.1, c.2 met.0 met.2)) in (
               as_function c.0,
@@ -101,19 +101,19 @@ module _ (m : SignMap) (om : IsChirotope m) where
             )
 
 cocircuits_rank : (n : ℕ) (members : List (List Sign)) (m : SignMap) → IsNormalOf n members m → (s : List ℕ)
-    → IsSubsetFrom 1 n s → IsLeastMeeting (IsNonzeroMember members) s → length s ≡ m.rank
-cocircuits_rank n members m h s list least =
-    least_rank m h.axioms (IsNonzeroMember members)
+    → IsSubsetFrom 1 n s → IsMinimalMeeting (IsNonzeroMember members) s → length s ≡ m.rank
+cocircuits_rank n members m h s list minimal =
+    minimal_rank m h.axioms (IsNonzeroMember members)
     (λ X x. (h.cocircuits.complete X x, nonzero_list_not_zero X x.nonzero))
     (λ X x. (X, h.cocircuits.sound X x.0, λ e k. k)) s
-    (subst (λ i. IsSubsetFrom 1 i s) (sym h.elements) list) least
+    (subst (λ i. IsSubsetFrom 1 i s) (sym h.elements) list) minimal
 
 covectors_rank : (c : Listing) (m : SignMap) → HasCovectors c m → (s : List ℕ) → IsSubsetFrom 1 c.elements s
-    → IsLeastMeeting (IsNonzeroMember c.members) s → length s ≡ m.rank
-covectors_rank c m h s list least =
-    least_rank m h.axioms (IsNonzeroMember c.members)
+    → IsMinimalMeeting (IsNonzeroMember c.members) s → length s ≡ m.rank
+covectors_rank c m h s list minimal =
+    minimal_rank m h.axioms (IsNonzeroMember c.members)
     (λ X x. (h.members.complete X (cocircuit_covector m h.axioms X x), nonzero_list_not_zero X x.nonzero)) within s
-    (subst (λ i. IsSubsetFrom 1 i s) (sym h.elements) list) least
+    (subst (λ i. IsSubsetFrom 1 i s) (sym h.elements) list) minimal
   where
     at_part : (X : List Sign) → IsCovectorOfChirotope m X → vectors.HasNonzero (as_function X)
         → HasCocircuitIn m h.axioms X
@@ -148,19 +148,19 @@ rank_for n P m om q same r e =
     }
 
 module _ (c : Listing) (n : ℕ) (vectors : List (List Sign)) (s : List ℕ) (q : n ≡ c.elements) (w : vectors ≡ c.members)
-    (list : IsSubsetFrom 1 n s) (least : IsLeastMeeting (IsNonzeroMember vectors) s)
+    (list : IsSubsetFrom 1 n s) (minimal : IsMinimalMeeting (IsNonzeroMember vectors) s)
     (size : ℕ) (e : size ≡ length s) where
   here_list : IsSubsetFrom 1 c.elements s
   here_list = subst (λ i. IsSubsetFrom 1 i s) q list
 
-  here_least : IsLeastMeeting (IsNonzeroMember c.members) s
-  here_least = subst (λ l. IsLeastMeeting (IsNonzeroMember l) s) w least
+  here_minimal : IsMinimalMeeting (IsNonzeroMember c.members) s
+  here_minimal = subst (λ l. IsMinimalMeeting (IsNonzeroMember l) s) w minimal
 
   pub rank_of_cocircuits : IsSignedSet c.elements c.members → IsRankFor c.elements (IsCovectorOfCocircuits c) size
   rank_of_cocircuits v =
       let of = normal_of c v.lengths v.axioms in
       rank_for c.elements (IsCovectorOfCocircuits c) of.0 of.1.axioms of.1.elements (denotes c of.0 of.1) size
-      (e ∙ cocircuits_rank c.elements c.members of.0 of.1 s here_list here_least)
+      (e ∙ cocircuits_rank c.elements c.members of.0 of.1 s here_list here_minimal)
 
   pub rank_of_circuits : IsSignedSet c.elements c.members → IsRankFor c.elements (IsCovectorOfCircuits c) (n - size)
   rank_of_circuits v =
@@ -168,7 +168,7 @@ module _ (c : Listing) (n : ℕ) (vectors : List (List Sign)) (s : List ℕ) (q 
       let d = normal_exists (dual_of of.0) (dual_axioms of.0 of.1.axioms) in
       let h = has_circuits c of.0 d.0 of.1 d.1 in
       let rank = normal_rank (dual_of of.0) d.0 d.1 in
-      let known = e ∙ cocircuits_rank c.elements c.members of.0 of.1 s here_list here_least in
+      let known = e ∙ cocircuits_rank c.elements c.members of.0 of.1 s here_list here_minimal in
       let elements = of.1.elements in
       rank_for c.elements (IsCovectorOfCircuits c) d.0 h.axioms h.elements h.same (n - size)
       (omega (arith, rank, known, elements, q))
@@ -179,7 +179,7 @@ module _ (c : Listing) (n : ℕ) (vectors : List (List Sign)) (s : List ℕ) (q 
       let same : DenoteTheSame c.elements (Contains c.members) (IsCovectorOfChirotope of.0) =
       (λ X l. (λ x. (of.1.same X l).0 (record { size = l; member = x }), λ x. ((of.1.same X l).1 x).member)) in
       rank_for c.elements (Contains c.members) of.0 of.1.axioms of.1.elements same size
-      (e ∙ covectors_rank c of.0 of.1 s here_list here_least)
+      (e ∙ covectors_rank c of.0 of.1 s here_list here_minimal)
 
 -- ---- the dual of circuits
 

@@ -39,9 +39,9 @@ abbrev pub IsNarrowed : (List Sign → Type 0) → List ℕ → ℕ → List ℕ
 IsNarrowed P s e t = ((t ≡ without_element e s) × MeetsFamily P t) ⊎ ((t ≡ s) × MissesOne P (without_element e s))
 
 -- a minimal set that meets every vector of a family: without any of its elements it misses some vector
-pub record IsLeastMeeting (P : List Sign → Type 0) (s : List ℕ) : Type 0 where
+pub record IsMinimalMeeting (P : List Sign → Type 0) (s : List ℕ) : Type 0 where
   pub each : MeetsFamily P s
-  pub least : (e : ℕ) → IsMember e s → MissesOne P (without_element e s)
+  pub minimal : (e : ℕ) → IsMember e s → MissesOne P (without_element e s)
 
 -- a chirotope on n elements with these cocircuits, whose first nonzero sign is plus
 pub record IsNormalOf (n : ℕ) (members : List (List Sign)) (m : SignMap) : Type 0 where
@@ -70,19 +70,31 @@ carried_sign a e h y s =
     (product (product (parity_sign (count_above e a)) (parity_sign (count_above h a))) (at_element y e))
     (at_element y h)) s
 
--- the sign s of a set t, from that of an earlier set, which has a smaller element h in place of e
+-- the set t with h in place of its element e
+abbrev pub replaced : ℕ → ℕ → List ℕ → List ℕ
+replaced h e t = with_element h (without_element e t)
+
+-- the sign of a set of elements from 1 to n, by the signs of the first sets
+abbrev pub sign_among : ℕ → List Sign → List ℕ → Sign
+sign_among n signs t = at signs (rank_of n t)
+
+-- the vector y of a list relates t to the set with a smaller element h in place of e: it is zero on what both share,
+-- and not at h
+pub record IsCarrier (members : List (List Sign)) (t : List ℕ) (e h : ℕ) (y : List Sign) : Type 0 where
+  pub member : Contains members y
+  pub missed : IsNonzeroOn (without_element e t) y → ⊥
+  pub low : 1 ≤ h
+  pub below : h < e
+  pub nonzero : at_element y h ≢ Zero
+
+-- some vector carries the sign s to t, from the set with a smaller element in place of e
 pub record IsCarried (n : ℕ) (members : List (List Sign)) (before : List Sign) (t : List ℕ) (e : ℕ) (s : Sign) : Type
     0 where
   pub inside : IsMember e t
-  pub vector : List Sign
-  pub member : Contains members vector
-  pub missed : IsNonzeroOn (without_element e t) vector → ⊥
   pub other : ℕ
-  pub low : 1 ≤ other
-  pub below : other < e
-  pub nonzero : at_element vector other ≢ Zero
-  pub value : s ≡ carried_sign (without_element e t) e other vector
-      (at before (rank_of n (with_element other (without_element e t))))
+  pub vector : List Sign
+  pub carrier : IsCarrier members t e other vector
+  pub value : s ≡ carried_sign (without_element e t) e other vector (sign_among n before (replaced other e t))
 
 -- some vector is zero on t without e, and on all elements below e
 pub record IsLeastAt (members : List (List Sign)) (t : List ℕ) (e : ℕ) : Type 0 where

@@ -6,7 +6,7 @@ ghost use Rattle.om_members.specs.Listings.{HaveLength};
 ghost use Rattle.om_members.specs.Vectors.{IsZero};
 ghost use Rattle.om_subsets.specs.Subsets.{IsSubsetFrom};
 ghost use Rattle.om_convert.specs.Hitting.{IsNonzeroOn, MeetsEach, MeetsFamily, IsNonzeroMember, IsNarrowed};
-ghost use Rattle.om_convert.specs.Hitting.{IsLeastMeeting};
+ghost use Rattle.om_convert.specs.Hitting.{IsMinimalMeeting};
 
 use om_members::is_zero;
 use om_signs::{MAX_ELEMENTS, SignVec};
@@ -82,12 +82,12 @@ fn narrowed(vectors: &[SignVec], set: Subset, e: u8) -> Subset
 /// signs, at most [`MAX_ELEMENTS`]. It allocates no memory.
 ///
 /// Source: Björner, Las Vergnas, Sturmfels, White and Ziegler, *Oriented Matroids*, chapter 3.
-pub fn least_meeting(elements: u8, vectors: &[SignVec]) -> Subset
+pub fn minimal_meeting(elements: u8, vectors: &[SignVec]) -> Subset
     requires high { elements ≤ MAX_ELEMENTS }
     requires lengths { HaveLength elements vectors.now }
     ensures n { result.n ≡ elements }
     ensures lawful { IsSubsetFrom 1 elements result.elements }
-    ensures least { IsLeastMeeting (IsNonzeroMember vectors.now) result.elements }
+    ensures minimal { IsMinimalMeeting (IsNonzeroMember vectors.now) result.elements }
 {
     let mut set = Subset::first(elements, elements);
     for e in 1..elements + 1 {

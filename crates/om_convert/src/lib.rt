@@ -32,7 +32,7 @@ mod vectors;
 pub use chirotopes::{chirotope_to_circuits, chirotope_to_cocircuits, chirotope_to_covectors};
 pub use convert_error::ConvertError;
 pub use covectors::covectors_to_cocircuits;
-pub use hitting::{least_meeting, missed_vector};
+pub use hitting::{minimal_meeting, missed_vector};
 pub use list_chirotopes::{circuits_to_chirotope, cocircuits_to_chirotope, covectors_to_chirotope};
 pub use lists::{
     circuits_to_cocircuits, circuits_to_covectors, cocircuits_to_circuits, cocircuits_to_covectors,

@@ -63,7 +63,8 @@ pub fn circuits_to_covectors(alloc: Global, c: &Circuits) -> Result<Covectors, C
     ensures unique { IfOk result AreOnlyCovectors }
     ensures few { OnOk result (IsWithinLimit (IsCovectorOfCircuits c.now.0)) }
     ensures narrow { OnOk result (HasFewValuesFor c.now.0.elements (IsCovectorOfCircuits c.now.0)) }
-    ensures refused { IfErr result (IsListCause c.now.0.elements (IsCovectorOfCircuits c.now.0) (IsCovectorOfCircuits c.now.0)) }
+    ensures refused { IfErr result (IsListCause c.now.0.elements (IsCovectorOfCircuits c.now.0)
+        (IsCovectorOfCircuits c.now.0)) }
 {
     let chi = circuits_to_chirotope(alloc, c)?;
     let covectors = chirotope_to_covectors(alloc, &chi)?;

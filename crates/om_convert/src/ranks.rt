@@ -5,7 +5,7 @@ ghost use Rattle.std.specs.List.{Contains};
 ghost use Rattle.om_denotation.specs.Covectors.{IsCovectorOfCircuits, IsCovectorOfCocircuits};
 ghost use Rattle.om_convert.specs.Ranks.{IsRankFor};
 
-use super::hitting::least_meeting;
+use super::hitting::minimal_meeting;
 use om_circuits::{Circuits, Cocircuits};
 use om_covectors::Covectors;
 use om_signs::MAX_ELEMENTS;
@@ -20,7 +20,7 @@ pub fn rank_circuits(c: &Circuits) -> u8
     ensures rank { IsRankFor c.now.0.elements (IsCovectorOfCircuits c.now.0) result }
 {
     let elements = c.0.elements();
-    elements - least_meeting(elements, c.0.members()).size()
+    elements - minimal_meeting(elements, c.0.members()).size()
 }
 
 /// The rank of the chirotope that denotes the same as some cocircuits, whatever its number of values. It is the
@@ -32,7 +32,7 @@ pub fn rank_cocircuits(c: &Cocircuits) -> u8
     ensures few { c.now.0.elements ≤ MAX_ELEMENTS }
     ensures rank { IsRankFor c.now.0.elements (IsCovectorOfCocircuits c.now.0) result }
 {
-    least_meeting(c.0.elements(), c.0.members()).size()
+    minimal_meeting(c.0.elements(), c.0.members()).size()
 }
 
 /// The rank of the chirotope that denotes the same as some covectors, whatever its number of values. It is the size
@@ -44,5 +44,5 @@ pub fn rank_covectors(c: &Covectors) -> u8
     ensures few { c.now.elements ≤ MAX_ELEMENTS }
     ensures rank { IsRankFor c.now.elements (Contains c.now.members) result }
 {
-    least_meeting(c.elements(), c.members()).size()
+    minimal_meeting(c.elements(), c.members()).size()
 }

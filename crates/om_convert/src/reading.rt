@@ -12,7 +12,7 @@ ghost use Rattle.om_convert.specs.Hitting.{IsEachNormalOf};
 ghost use Rattle.om_convert.specs.Reading.{IsSetReadError, IsCovReadError};
 
 use super::convert_error::ConvertError;
-use super::hitting::{least_meeting, missed_vector};
+use super::hitting::{minimal_meeting, missed_vector};
 use super::propagation::propagated_map;
 use super::read_error::{ReadCovError, ReadSetError};
 use super::vectors::{all_cocircuits, all_covectors};
@@ -237,7 +237,7 @@ fn proposed_chirotope<R: Threads + Sync>(
     if missed_vector(vectors, Subset::first(elements, elements)).is_some() {
         return Ok(None);
     }
-    let rank = least_meeting(elements, vectors).size();
+    let rank = minimal_meeting(elements, vectors).size();
     if !is_proposed(members, Subset::choose(elements, rank)) {
         return Ok(None);
     }

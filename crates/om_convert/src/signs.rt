@@ -69,16 +69,10 @@ fn sign_over(vectors: &[SignVec], before: &[Sign], t: Subset, e: u8) -> Option<S
         return None;
     }
     let a = t.without(e);
-    match missed_vector(vectors, a) {
-        None => None,
-        Some(y) => match nonzero_below(y, e) {
-            None => None,
-            Some(h) => {
-                let other = a.with(h);
-                Some(carried(a, e, h, y, before[other.rank() as usize]))
-            }
-        },
-    }
+    let y = missed_vector(vectors, a)?;
+    let h = nonzero_below(y, e)?;
+    let other = a.with(h);
+    Some(carried(a, e, h, y, before[other.rank() as usize]))
 }
 
 /// The sign of a set that meets every vector, from the signs of the sets before it. Suppose that `before` has the

@@ -8,9 +8,9 @@ ghost use Rattle.om_make.specs.Lists.{ListsCocircuits, ListsCovectors};
 
 use om_chirotope::Chirotope;
 use om_circuits::Cocircuits;
-use om_convert::{ConvertError, chirotope_to_cocircuits, chirotope_to_covectors};
+use om_convert::{chirotope_to_cocircuits, chirotope_to_covectors};
 use om_covectors::Covectors;
-use om_mutate::{MutationError, mutations};
+use om_mutate::mutations;
 use om_signs::{MAX_ELEMENTS, NoMemory};
 use std::alloc::Global;
 
@@ -22,11 +22,8 @@ pub fn list_cocircuits(alloc: Global, chi: &Chirotope) -> Result<Cocircuits, NoM
 {
     match chirotope_to_cocircuits(alloc, chi) {
         Ok(cocircuits) => Ok(cocircuits),
-        // a list of cocircuits has no values
-        Err(ConvertError::TooWide { .. }) => unreachable!(),
         // in rank 3 there are at most n (n - 1) on n elements, which is 380 on 20
-        Err(ConvertError::TooMany { .. }) => unreachable!(),
-        Err(ConvertError::Memory) => Err(NoMemory),
+        Err(error) => Err(error.memory_alone()),
     }
 }
 
@@ -38,11 +35,8 @@ pub fn list_covectors(alloc: Global, chi: &Chirotope) -> Result<Covectors, NoMem
 {
     match chirotope_to_covectors(alloc, chi) {
         Ok(covectors) => Ok(covectors),
-        // a list of covectors has no values
-        Err(ConvertError::TooWide { .. }) => unreachable!(),
         // in rank 3 there are at most 4 n (n - 1) + 3 on n elements, which is 1,523 on 20
-        Err(ConvertError::TooMany { .. }) => unreachable!(),
-        Err(ConvertError::Memory) => Err(NoMemory),
+        Err(error) => Err(error.memory_alone()),
     }
 }
 
@@ -68,7 +62,6 @@ pub fn count_mutations(alloc: Global, chi: &Chirotope) -> Result<u32, NoMemory>
     match mutations(alloc, chi) {
         Ok(sets) => Ok(sets.len() as u32),
         // the rank is 3
-        Err(MutationError::NotRank3 { .. }) => unreachable!(),
-        Err(MutationError::Memory) => Err(NoMemory),
+        Err(error) => Err(error.memory_alone()),
     }
 }

@@ -6,7 +6,7 @@ ghost use Rattle.om_make.specs.Lists.{IsNormalFormByCocircuits, IsNormalFormByCo
 
 use om_chirotope::Chirotope;
 use om_circuits::Cocircuits;
-use om_convert::{ConvertError, cocircuits_to_chirotope, covectors_to_chirotope};
+use om_convert::{cocircuits_to_chirotope, covectors_to_chirotope};
 use om_covectors::Covectors;
 use om_signs::NoMemory;
 use std::alloc::Global;
@@ -35,10 +35,7 @@ pub fn convert_cocircuits_back(alloc: Global, cocircuits: &Cocircuits) -> Result
     match cocircuits_to_chirotope(alloc, cocircuits) {
         Ok(chirotope) => Ok(CameBack { chirotope }),
         // a chirotope of rank 3 on 20 elements has 1,140 values
-        Err(ConvertError::TooWide { .. }) => unreachable!(),
-        // the result is a chirotope and not a list, so no limit on members applies
-        Err(ConvertError::TooMany { .. }) => unreachable!(),
-        Err(ConvertError::Memory) => Err(NoMemory),
+        Err(error) => Err(error.memory_alone()),
     }
 }
 
@@ -50,9 +47,6 @@ pub fn convert_covectors_back(alloc: Global, covectors: &Covectors) -> Result<Ca
     match covectors_to_chirotope(alloc, covectors) {
         Ok(normal) => Ok(CameBack { chirotope: normal }),
         // a chirotope of rank 3 on 20 elements has 1,140 values
-        Err(ConvertError::TooWide { .. }) => unreachable!(),
-        // the result is a chirotope and not a list, so no limit on members applies
-        Err(ConvertError::TooMany { .. }) => unreachable!(),
-        Err(ConvertError::Memory) => Err(NoMemory),
+        Err(error) => Err(error.memory_alone()),
     }
 }

@@ -14,7 +14,7 @@ use super::listing::{
 use super::return_trip::{CameBack, convert_cocircuits_back, convert_covectors_back};
 use om_chirotope::Chirotope;
 use om_signs::{NoMemory, Sign};
-use om_vectors::{SignsError, Tally, Word, signs_of};
+use om_vectors::{Tally, Word, signs_of};
 use std::alloc::Global;
 use std::thread::Threads;
 
@@ -47,8 +47,7 @@ fn chirotope_of(alloc: Global, vectors: &Word) -> Result<Chirotope, NoMemory>
     match signs_of(alloc, vectors.as_slice()) {
         Ok(chi) => Ok(chi),
         // the triple product of the unit vectors is 1
-        Err(SignsError::RankLow) => unreachable!(),
-        Err(SignsError::Memory) => Err(NoMemory),
+        Err(error) => Err(error.memory_alone()),
     }
 }
 

@@ -1,12 +1,14 @@
 -- Parallel elements, by what one walk over the bases tells.
 --
--- Main definitions: IsSeenBefore, HasBoth.
--- Main results: whether an element is seen after one set more (seen_more); an element is seen by the end of the walk
+-- Main definitions: IsSeenBefore, HasBoth, AreSeen.
+-- Main results: what is seen after one set more (seen_more, seen_next); an element is seen by the end of the walk
 -- exactly where it is no loop (no_loop); elements that stand in one basis are not parallel (not_parallel); where no
 -- basis has both of two elements, they are parallel exactly where neither is a loop (parallel_at_last).
-use Rattle.std.proofs.Common.{ℕ, ◌≡◌, ◌≢◌, ◌+◌, ◌<◌, ◌≤◌, ◌↔◌, ◌⊎◌, List, [], ◌∷◌, length, refl, sym, ap, subst, ◌∙◌}
-use Rattle.std.proofs.Common.{inl, inr, arith, Bool, true, false, IsTrue, ◌||◌}
+use Rattle.std.proofs.Common.{ℕ, ◌≡◌, ◌≢◌, ◌+◌, ◌<◌, ◌≤◌, ◌↔◌, ◌⊎◌, List, [], ◌∷◌, ◌++◌, length, refl, sym, ap, subst}
+use Rattle.std.proofs.Common.{◌∙◌, inl, inr, arith, below_more, Bool, true, false, IsTrue, ◌||◌}
 use Rattle.std.proofs.lemmas.Bool.{cases_eq, false≢true}
+use Rattle.std.proofs.lemmas.List.{length-append}
+use Rattle.om_subsets.specs.Members.{Chosen}
 use Rattle.om_subsets.specs.Subsets.{IsSubsetFrom, IsMember, with_element, choose, rank_of, subset_at, IsPartOf}
 use Rattle.om_subsets.proofs.Order.{members_from}
 use Rattle.om_subsets.proofs.Statements.{subset_is_increasing, members_with}
@@ -44,6 +46,29 @@ seen_more m e k b false here place was at = (
     | inr n ↦ absurd (false≢true (was.1 (s.0, (let l = s.1 in omega arith), s.2, s.3)))
   ],
 )
+
+-- what the bases at the places below k say: whether each of two elements is in one, and that none has both
+pub record AreSeen (m : SignMap) (e f k : ℕ) (first second : Bool) : Type 0 where
+  pub one : IsTrue first ↔ IsSeenBefore m e k
+  pub other : IsTrue second ↔ IsSeenBefore m f k
+  pub apart : e ≢ f → HasNoneBefore (HasBoth m e f) m.elements m.rank k
+
+-- the same after one set more, which no basis with both elements is, for `parallel`
+pub seen_next : (m : SignMap) (e f : ℕ) (xs : List Chosen) (b : Chosen) (first second here there : Bool)
+    → b.elements ≡ subset_at m.elements m.rank (length xs)
+    → IsTrue here ↔ (IsBasis m b.elements × IsMember e b.elements)
+    → IsTrue there ↔ (IsBasis m b.elements × IsMember f b.elements) → (IsTrue here → IsTrue there → e ≡ f)
+    → AreSeen m e f (length xs) first second
+    → AreSeen m e f (length (xs ++ b ∷ [])) (first || here) (second || there)
+seen_next m e f xs b first second here there place at_e at_f same h = rw (length-append xs (b ∷ [])) (record {
+  one = seen_more m e (length xs) b.elements first here place h.one at_e;
+  other = seen_more m f (length xs) b.elements second there place h.other at_f;
+  apart = λ ne. below_more _ _ (h.apart ne) (λ both.
+      let basis = subst (IsBasis m) (sym place) both.0 in
+      ne
+      (same (at_e.1 (basis, subst (IsMember e) (sym place) both.1))
+      (at_f.1 (basis, subst (IsMember f) (sym place) both.2))));
+})
 
 module _ (m : SignMap) (e : ℕ) where
   pub no_loop : (seen : Bool) → IsTrue seen ↔ IsSeenBefore m e (choose m.elements m.rank) → IsTrue seen

@@ -2,6 +2,7 @@ pub mod Skips
 pub mod BasisLaws
 pub mod MinorMaps
 pub mod MinorLists
+pub mod NormalMinors
 pub mod Turning
 pub mod DualMinors
 pub mod DroppedPlaces

@@ -2,12 +2,14 @@
 --
 -- Main results: turned_odd, turned_even, the sign of the elements that a mask names; reoriented_tuples,
 -- reoriented_axioms, is_reorientation; twice.
-use Rattle.std.specs.Prelude.{ℕ, ◌≡◌, ◌≢◌, ◌⊎◌, ◌+◌, ◌-◌, ◌/◌, ◌%◌, ◌<◌, ◌≤◌, List, [], length, map, refl, cond}
-use Rattle.std.specs.Prelude.{nat_eq, bit_and, Bool, true, false}
+use Rattle.std.specs.Prelude.{ℕ, ◌≡◌, ◌≢◌, ◌⊎◌, ◌+◌, ◌-◌, ◌/◌, ◌%◌, ◌<◌, ◌≤◌, List, [], ◌∷◌, ◌++◌, length, map}
+use Rattle.std.specs.Prelude.{nat_eq, bit_and, Bool, true, false, refl, cond, slice_get, Some}
 use Rattle.std.specs.Int.{bit_at}
 use Rattle.std.proofs.Common.{zero, suc, sym, ◌∙◌, ap, inl, inr, arith, set}
 use Rattle.std.proofs.lemmas.Bool.{cases_eq, eq-eqb, ne_eqb}
-use Rattle.std.proofs.lemmas.List.{ext_get_or, length-map, get_or-map, get_or-set_same, get_or-set_other}
+use Rattle.std.proofs.lemmas.List.{ext_get_or, length-append, length-map, length-set, get_or-map, get_or-set_same}
+use Rattle.std.proofs.lemmas.List.{get_or-set_other}
+use Rattle.std.proofs.lemmas.Option.{get_or_from_slice_get}
 use Rattle.std.proofs.lemmas.Nat.Bits.{bit_at_lowest, bit_at-suc}
 use Rattle.om_signs.specs.declared.sign.Sign.{Sign}
 use Rattle.om_signs.specs.declared.sign.Sign.TheVariants.{Minus, Zero, Plus}
@@ -16,7 +18,7 @@ use Rattle.om_signs.specs.SignVec.{at, flip}
 use Rattle.om_signs.proofs.ListPlaces.{at-flip_from, length-flip_from}
 use Rattle.om_signs.proofs.SignLaws.{product-zero, product-opposite_right, product_twice}
 use Rattle.om_signs.proofs.Bits.{bit_and-half, bit_and-lowest}
-use Rattle.om_subsets.specs.Members.{members, mask_of}
+use Rattle.om_subsets.specs.Members.{Chosen, members, mask_of}
 use Rattle.om_subsets.specs.Subsets.{IsSubsetFrom, choose, all_subsets, subset_at}
 use Rattle.om_subsets.proofs.Masks.{members-mask_of}
 use Rattle.om_subsets.proofs.Order.{length-subsets_from, listed}
@@ -33,6 +35,7 @@ use Rattle.om_laws.proofs.TupleSizes.{is_tuple_cases, on_tuples_at, on_tuples_of
 use Rattle.om_chirotope.specs.Map.{SignMap, chi_of, negated, parity_sign}
 use Rattle.om_chirotope.specs.Chirotope.{IsChirotope}
 use Rattle.om_chirotope.proofs.Circuits.{parity_sign-suc}
+use Rattle.om_chirotope.proofs.NumberedSets.{IsNumberedTurn}
 use Rattle.om_chirotope.proofs.Theory.{theory_chirotope}
 use Rattle.om_denotation.specs.Covectors.{IsCovectorOfChirotope}
 use Rattle.om_denotation.specs.Operations.{IsReorientation}
@@ -118,6 +121,30 @@ pub turned_rest : (signs new old : List Sign) (k : ℕ) (item : Sign) → new �
     → ((j : ℕ) → k ≤ j → at signs j ≡ at old j) → (j : ℕ) → k + 1 ≤ j → at new j ≡ at old j
 turned_rest signs new old k item qn h j l = let n : j ≢ k = omega arith in ap (λ z. at z j) qn
     ∙ get_or-set_other signs k j item Zero n ∙ h j (omega arith)
+
+-- the signs of the first k lists are turned, and the others are as before
+pub record AreTurnedTo (m : SignMap) (mask : ℕ) (signs : List Sign) (k : ℕ) : Type 0 where
+  pub size : length signs ≡ choose m.elements m.rank
+  pub done : AreTurnedBelow m mask signs k
+  pub rest : (j : ℕ) → k ≤ j → at signs j ≡ at m.signs j
+
+-- the turn of the list that comes with its number, for `turned`
+pub turned_on : (m : SignMap) (mask : ℕ) (signs new : List Sign) (xs : List (ℕ × Chosen)) (x : ℕ × Chosen)
+    (item sign sigma : Sign) → IsNumberedTurn m.elements m.rank (length xs) x → slice_get signs x.0 ≡ Some sign
+    → sigma ≡ signs_product (turning (names mask)) x.1.elements → item ≡ product sigma sign → new ≡ set signs x.0 item
+    → AreTurnedTo m mask signs (length xs) → AreTurnedTo m mask new (length (xs ++ x ∷ []))
+turned_on m mask signs new xs x item sign sigma turn read turning times written h =
+    let inside = turn.turn.inside in
+    let size = h.size in
+    let here : new ≡ set signs (length xs) item = written ∙ ap (λ k. set signs k item) turn.number in
+    let read_here : at signs (length xs) ≡ sign = get_or_from_slice_get signs (length xs) sign Zero
+    (sym (ap (slice_get signs) turn.number) ∙ read) in
+    rw (length-append xs (x ∷ [])) (record {
+      size = ap length here ∙ length-set signs (length xs) item ∙ size;
+      done = turned_more m mask signs new (length xs) item sign sigma x.1.elements (omega (arith, inside, size)) here
+          times read_here turning turn.turn.here (h.rest (length xs) (omega arith)) h.done;
+      rest = turned_rest signs new m.signs (length xs) item here h.rest;
+    })
 
 pub turned_all : (m : SignMap) (mask : ℕ) (signs : List Sign) (r n k : ℕ) → r ≡ m.rank → n ≡ m.elements
     → length signs ≡ choose m.elements m.rank → choose m.elements m.rank ≤ k → AreTurnedBelow m mask signs k

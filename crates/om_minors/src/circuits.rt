@@ -71,7 +71,8 @@ pub fn reorient_circuits(c: Circuits, mask: u32) -> Circuits
     requires { mask < 2 ^ c.0.elements }
     ensures elements { result.0.elements ≡ c.0.elements }
     ensures members { result.0.members ≡ map (flip mask) c.0.members }
-    ensures reorientation { IsReorientation c.0.elements mask (IsCovectorOfCircuits c.0) (IsCovectorOfCircuits result.0) }
+    ensures reorientation { IsReorientation c.0.elements mask (IsCovectorOfCircuits c.0)
+        (IsCovectorOfCircuits result.0) }
 {
     Circuits(reoriented(c.0, mask))
 }

@@ -72,7 +72,8 @@ pub fn reorient_cocircuits(c: Cocircuits, mask: u32) -> Cocircuits
     requires { mask < 2 ^ c.0.elements }
     ensures elements { result.0.elements ≡ c.0.elements }
     ensures members { result.0.members ≡ map (flip mask) c.0.members }
-    ensures reorientation { IsReorientation c.0.elements mask (IsCovectorOfCocircuits c.0) (IsCovectorOfCocircuits result.0) }
+    ensures reorientation { IsReorientation c.0.elements mask (IsCovectorOfCocircuits c.0)
+        (IsCovectorOfCocircuits result.0) }
 {
     Cocircuits(reoriented(c.0, mask))
 }

@@ -3,11 +3,12 @@
 ghost use Rattle.std.specs.Prelude.{ℕ, ◌≡◌, ◌≤◌, ◌<◌, ◌+◌, ◌-◌, ◌↔◌, IfOk, IsErrOf, length, map, true, false};
 ghost use Rattle.om_signs.specs.declared.sign.Sign.TheVariants.{Plus};
 ghost use Rattle.om_chirotope.specs.Map.{IsLedBy};
+ghost use Rattle.om_chirotope.specs.Chirotope.{IsChirotope};
 ghost use Rattle.om_denotation.specs.Covectors.{IsCovectorOfChirotope};
 ghost use Rattle.om_denotation.specs.Operations.{IsDeletion, IsContraction};
 ghost use Rattle.om_denotation.specs.Maps.{IsNormalFormOf};
 ghost use Rattle.om_matroid.specs.Bases.{IsColoop, IsLoop};
-ghost use Rattle.om_minors.specs.Minors.{deleted, contracted};
+ghost use Rattle.om_minors.specs.Minors.{deleted, contracted, IsNormalDeletion, IsNormalContraction};
 
 use super::minor_error::MinorError;
 use om_chirotope::Chirotope;
@@ -41,11 +42,7 @@ pub fn delete_chirotope(alloc: Global, chi: &Chirotope, e: u8) -> Result<Chiroto
     if chi.elements() == 1 {
         return Err(MinorError::LastElement);
     }
-    if is_coloop(chi, e) {
-        Ok(general_contraction(alloc, chi, e)?)
-    } else {
-        Ok(general_deletion(alloc, chi, e)?)
-    }
+    Ok(deletion_beside_others(alloc, chi, e)?)
 }
 
 /// The normal chirotope of the contraction of e: its covectors are the covectors that are 0 at e, without their
@@ -73,10 +70,36 @@ pub fn contract_chirotope(alloc: Global, chi: &Chirotope, e: u8) -> Result<Chiro
     if chi.elements() == 1 {
         return Err(MinorError::LastElement);
     }
-    if is_loop(chi, e) {
-        Ok(general_deletion(alloc, chi, e)?)
+    Ok(contraction_beside_others(alloc, chi, e)?)
+}
+
+/// The normal chirotope of the deletion of e, where other elements are left.
+fn deletion_beside_others(alloc: Global, chi: &Chirotope, e: u8) -> Result<Chirotope, NoMemory>
+    requires low { 1 ≤ e }
+    requires high { e ≤ chi.now.elements }
+    requires several { 2 ≤ chi.now.elements }
+    requires lawful { IsChirotope chi.now }
+    ensures { IfOk result (IsNormalDeletion e chi.now) }
+{
+    if is_coloop(chi, e) {
+        general_contraction(alloc, chi, e)
     } else {
-        Ok(general_contraction(alloc, chi, e)?)
+        general_deletion(alloc, chi, e)
+    }
+}
+
+/// The normal chirotope of the contraction of e, where other elements are left.
+fn contraction_beside_others(alloc: Global, chi: &Chirotope, e: u8) -> Result<Chirotope, NoMemory>
+    requires low { 1 ≤ e }
+    requires high { e ≤ chi.now.elements }
+    requires several { 2 ≤ chi.now.elements }
+    requires lawful { IsChirotope chi.now }
+    ensures { IfOk result (IsNormalContraction e chi.now) }
+{
+    if is_loop(chi, e) {
+        general_deletion(alloc, chi, e)
+    } else {
+        general_contraction(alloc, chi, e)
     }
 }
 
@@ -153,7 +176,8 @@ impl SignRule for Contraction<'_> {
 
     ghost rule = { λ c. contraction c.e (value_of c.chi.now) };
 
-    ghost valid = { λ c. IsChirotopeWithinLimits c.chi.now × (1 ≤ c.e) × (c.e ≤ c.chi.now.elements) × (1 ≤ c.chi.now.rank) };
+    ghost valid = { λ c.
+        IsChirotopeWithinLimits c.chi.now × (1 ≤ c.e) × (c.e ≤ c.chi.now.elements) × (1 ≤ c.chi.now.rank) };
 
     fn sign(&self, s: Subset) -> Sign {
         let others = s.skipping(self.e);

@@ -23,7 +23,8 @@ pub fn reorient_chirotope(chi: Chirotope, mask: u32) -> Chirotope
     requires { mask < 2 ^ chi.elements }
     ensures rank { result.rank ≡ chi.rank }
     ensures elements { result.elements ≡ chi.elements }
-    ensures reorientation { IsReorientation chi.elements mask (IsCovectorOfChirotope chi) (IsCovectorOfChirotope result) }
+    ensures reorientation { IsReorientation chi.elements mask (IsCovectorOfChirotope chi)
+        (IsCovectorOfChirotope result) }
     ensures normal { IsLedBy Plus result.signs }
     ensures value { IsNormalFormOf (reoriented_on mask chi) result }
 {
@@ -38,13 +39,9 @@ fn turned(raw: RawMap, mask: u32) -> RawMap
     ensures { map_of result ≡ reoriented_on mask (map_of raw) }
 {
     let mut turned = raw;
-    let mut s = Subset::first(turned.rank, turned.elements);
-    for place in 0..Subset::choose(turned.elements, turned.rank) {
-        let sign = turned.signs.at(place as usize);
-        turned
-            .signs
-            .set(place as usize, turning_sign(s, mask).times(sign));
-        s = s.following();
+    for (place, s) in Subset::all(turned.rank, turned.elements).enumerate() {
+        let sign = turned.signs.at(place);
+        turned.signs.set(place, turning_sign(s, mask).times(sign));
     }
     turned
 }

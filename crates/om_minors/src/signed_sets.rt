@@ -22,7 +22,8 @@ pub fn zero_part(alloc: Global, set: &SignedSet, e: u8) -> Result<SignedSet, NoM
     requires high { e ≤ set.now.elements }
     requires several { 2 ≤ set.now.elements }
     ensures elements { IfOk result (λ d. d.elements + 1 ≡ set.now.elements) }
-    ensures members { IfOk result (λ d. AreAllOf (IsZeroWithout set.now.elements e (Contains set.now.members)) d.members) }
+    ensures members { IfOk result (λ d.
+        AreAllOf (IsZeroWithout set.now.elements e (Contains set.now.members)) d.members) }
     ensures no_more { IfOk result (λ d. length d.members ≤ length set.now.members) }
 {
     let elements = set.elements();

@@ -18,7 +18,8 @@ pub fn same<A: Oriented, B: Oriented>(a: &A, b: &B) -> Result<(), Differ>
     requires { A.elements a.now ≡ B.elements b.now }
     ensures same { IsOk result ↔ DenoteTheSame (A.elements a.now) (A.is_covector a.now) (B.is_covector b.now) }
     ensures differ { IsErr result ↔ HaveDifference (A.elements a.now) (A.is_covector a.now) (B.is_covector b.now) }
-    ensures first { IfErr result (λ d. IsFirstDifference (A.elements a.now) (A.is_covector a.now) (B.is_covector b.now) d.x) }
+    ensures first { IfErr result (λ d.
+        IsFirstDifference (A.elements a.now) (A.is_covector a.now) (B.is_covector b.now) d.x) }
 {
     let mut x = least(a.elements());
     loop {

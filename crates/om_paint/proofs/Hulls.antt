@@ -5,7 +5,7 @@
 -- where one element is green are those with it as their only minus place (first_circuit_at, first_cocircuit_at,
 -- some_item, extreme_item, extreme_both).
 use Rattle.std.proofs.Common.{ℕ, zero, suc, ◌≡◌, ◌≢◌, ◌+◌, ◌-◌, ◌<◌, ◌≤◌, ◌⊎◌, ◌↔◌, List, [], ◌∷◌, ◌++◌, length}
-use Rattle.std.proofs.Common.{replicate, refl, sym, ap, subst, ◌∙◌, inl, inr, ⊎_elim, arith}
+use Rattle.std.proofs.Common.{get_or, replicate, refl, sym, ap, subst, ◌∙◌, inl, inr, ⊎_elim, arith}
 use Rattle.std.specs.Prelude.{Option, None}
 use Rattle.std.proofs.lemmas.Bool.{cases_eq, eq-eqb, ne_eqb}
 use Rattle.std.proofs.lemmas.List.{length-replicate, get_or-replicate, get_or_past, ext_get_or}
@@ -36,6 +36,7 @@ use Rattle.om_paint.specs.Classes.{HasMinusAloneAt}
 use Rattle.om_paint.specs.Hulls.{all_plus, IsPositiveCircuit, IsOnlyMinus, IsExtreme, green_alone, IsCocircuitItem}
 use Rattle.om_paint.specs.Hulls.{EachItem}
 use Rattle.om_paint.proofs.FirstVectors.{first_same}
+use Rattle.om_paint.proofs.Firsts.{placed}
 use Rattle.om_paint.proofs.Masks.{inside}
 
 pub all_pluses : (n : ℕ) (x : List Sign) → length x ≡ n → ((k : ℕ) → k < n → at x k ≡ Plus) → x ≡ all_plus n
@@ -207,6 +208,15 @@ module _ (m : SignMap) (chirotope : IsChirotope m) where
       → IsFirstIfAny (IsPositiveCircuit m) o
   positive_first o h = first_same (λ X. IsCircuitOfChirotope m X × HasMinusAloneAt 0 X) (IsPositiveCircuit m)
       (λ X a. (a.0, (none_both X).0 a.1)) (λ X a. (a.0, (none_both X).1 a.1)) o h
+
+  -- what stands at place 0 of the first circuits, whatever is read past the end, for `hull`
+  pub positive_at : (firsts : List (Option (List Sign))) → length firsts ≡ CLASSES
+      → ((i : ℕ) → i < CLASSES → IsFirstIfAny (λ X. IsCircuitOfChirotope m X × HasMinusAloneAt i X)
+      (get_or firsts i None)) → (d o : Option (List Sign)) → get_or firsts 0 d ≡ o
+      → IsFirstIfAny (IsPositiveCircuit m) o
+  positive_at firsts size are d o is =
+      positive_first o
+      (placed (λ i X. IsCircuitOfChirotope m X × HasMinusAloneAt i X) firsts 0 size (omega arith) are d o is)
 
   module _ (e : ℕ) (low : 1 ≤ e) (high : e ≤ m.elements) where
     pub first_circuit_at : (o : Option (List Sign))

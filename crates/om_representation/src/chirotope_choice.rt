@@ -46,13 +46,13 @@ fn of_circuits(alloc: Global, circuits: &Circuits) -> Result<Chirotope, Unchosen
 {
     match circuits_to_chirotope(alloc, circuits) {
         Ok(chirotope) => Ok(chirotope),
-        Err(ConvertError::TooWide { values }) => Err(Unchosen::TooWide {
-            rank: rank_circuits(circuits),
-            values,
-        }),
-        // a chirotope has no members
-        Err(ConvertError::TooMany { .. }) => unreachable!(),
-        Err(ConvertError::Memory) => Err(Unchosen::Memory),
+        Err(error) => match error {
+            ConvertError::TooWide { values } => Err(Unchosen::TooWide {
+                rank: rank_circuits(circuits),
+                values,
+            }),
+            _ => Err(Unchosen::from(error.memory_alone())),
+        },
     }
 }
 
@@ -64,13 +64,13 @@ fn of_cocircuits(alloc: Global, cocircuits: &Cocircuits) -> Result<Chirotope, Un
 {
     match cocircuits_to_chirotope(alloc, cocircuits) {
         Ok(chirotope) => Ok(chirotope),
-        Err(ConvertError::TooWide { values }) => Err(Unchosen::TooWide {
-            rank: rank_cocircuits(cocircuits),
-            values,
-        }),
-        // a chirotope has no members
-        Err(ConvertError::TooMany { .. }) => unreachable!(),
-        Err(ConvertError::Memory) => Err(Unchosen::Memory),
+        Err(error) => match error {
+            ConvertError::TooWide { values } => Err(Unchosen::TooWide {
+                rank: rank_cocircuits(cocircuits),
+                values,
+            }),
+            _ => Err(Unchosen::from(error.memory_alone())),
+        },
     }
 }
 
@@ -82,12 +82,12 @@ fn of_covectors(alloc: Global, covectors: &Covectors) -> Result<Chirotope, Uncho
 {
     match covectors_to_chirotope(alloc, covectors) {
         Ok(chirotope) => Ok(chirotope),
-        Err(ConvertError::TooWide { values }) => Err(Unchosen::TooWide {
-            rank: rank_covectors(covectors),
-            values,
-        }),
-        // a chirotope has no members
-        Err(ConvertError::TooMany { .. }) => unreachable!(),
-        Err(ConvertError::Memory) => Err(Unchosen::Memory),
+        Err(error) => match error {
+            ConvertError::TooWide { values } => Err(Unchosen::TooWide {
+                rank: rank_covectors(covectors),
+                values,
+            }),
+            _ => Err(Unchosen::from(error.memory_alone())),
+        },
     }
 }

@@ -42,8 +42,8 @@ fn word_of(points: &[[i64; 3]]) -> Word
     ensures { result ≡ vectors_of points.now }
 {
     let mut word = Word::new();
-    for place in 0..points.len() {
-        word.push(vector_of_point(points[place]));
+    for point in points {
+        word.push(vector_of_point(*point));
     }
     word
 }

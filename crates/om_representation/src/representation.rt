@@ -150,8 +150,8 @@ fn represent_circuits<R: Threads + Sync>(
         Err(ReadSetError::Bad(bad)) => Err(Unrepresented::Refused(DocumentRefused::Circuits(
             bad.why,
         ))),
-        // a list is read whatever memory there is
-        Err(ReadSetError::Memory(_)) => unreachable!(),
+        // never, since a list is read whatever memory there is
+        Err(ReadSetError::Memory(_)) => Err(Unrepresented::Memory),
     }
 }
 
@@ -176,8 +176,8 @@ fn represent_cocircuits<R: Threads + Sync>(
         Err(ReadSetError::Bad(bad)) => Err(Unrepresented::Refused(DocumentRefused::Circuits(
             bad.why,
         ))),
-        // a list is read whatever memory there is
-        Err(ReadSetError::Memory(_)) => unreachable!(),
+        // never, since a list is read whatever memory there is
+        Err(ReadSetError::Memory(_)) => Err(Unrepresented::Memory),
     }
 }
 
@@ -202,7 +202,7 @@ fn represent_covectors<R: Threads + Sync>(
         Err(ReadCovError::Bad(bad)) => Err(Unrepresented::Refused(DocumentRefused::Covectors(
             bad.why,
         ))),
-        // a list is read whatever memory there is
-        Err(ReadCovError::Memory(_)) => unreachable!(),
+        // never, since a list is read whatever memory there is
+        Err(ReadCovError::Memory(_)) => Err(Unrepresented::Memory),
     }
 }

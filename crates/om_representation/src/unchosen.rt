@@ -1,3 +1,5 @@
+use om_signs::NoMemory;
+
 /// Why there is no chirotope to work on.
 #[derive(Clone, Copy)]
 pub enum Unchosen {
@@ -6,4 +8,15 @@ pub enum Unchosen {
     TooWide { rank: u8, values: u32 },
     /// Memory ran out for the chirotope of a list.
     Memory,
+}
+
+impl From<NoMemory> for Unchosen {
+    ghost use Rattle.std.specs.Prelude.{◌≡◌};
+    ghost use Rattle.om_representation.specs.declared.unchosen.Unchosen.TheVariants.{Memory};
+
+    ghost from_gives = { λ _ e. e ≡ Memory };
+
+    fn from(_: NoMemory) -> Self {
+        Unchosen::Memory
+    }
 }

@@ -16,7 +16,6 @@ use Rattle.om_signs.specs.declared.sign.Sign.TheVariants.{Zero}
 use Rattle.om_subsets.specs.Subsets.{choose, all_subsets, subset_at, rank_of, IsSubsetFrom}
 use Rattle.om_subsets.specs.Members.{Chosen, members, mask_of}
 use Rattle.om_subsets.proofs.Order.{length-subsets_from}
-use Rattle.om_subsets.proofs.Table.{choose_above}
 use Rattle.om_subsets.proofs.Masks.{members-mask_of, mask_of-lt}
 use Rattle.om_subsets.proofs.Places.{members-zero, bits_fit}
 use Rattle.om_subsets.proofs.Lowest.{lowest, turn}
@@ -32,6 +31,10 @@ chosen n xs = record { n = n; elements = xs }
 -- what stands past the end of a table
 abbrev pub nothing : Chosen
 nothing = chosen 0 []
+
+-- a map of rank r on n elements, for the sets of r of n elements
+abbrev pub numbers : ℕ → ℕ → SignMap
+numbers n r = record { rank = r; elements = n; signs = [] }
 
 -- ---- the table
 
@@ -68,11 +71,6 @@ table_done n r table count k l room done h =
     let below : j < count = omega (arith, lt, l) in
     h j (omega (arith, below, done)) ∙ sym (set_at n r j (omega (arith, below, room)))
     ∙ sym (get_or-take count (all_chosen n r) j nothing below))
-
-pub table_empty : (n r : ℕ) (table : List Chosen) → length table ≤ choose n r → n < r
-    → table ≡ take (length table) (all_chosen n r)
-table_empty n r table l above = let none = choose_above n r above in
-    table_done n r table (length table) 0 refl l (omega arith) (λ j lt. absurd (omega arith))
 
 -- there are at most 5,985 sets of four
 pub few_fours : (n : ℕ) → n ≤ MAX_PLACES → choose n 4 ≤ 5985

@@ -39,8 +39,8 @@ pub fn check<R: Threads + Sync>(rt: &R, raw: RawMap) -> Result<Chirotope, BadThr
     ensures all_zero { IfErr result (λ bad. (bad.why ≡ ThreeRefused.AllZero) ↔ IsAllZero raw.signs) }
     ensures exchange { IfErr result (λ bad. (b c : Chosen) (e : ℕ) → bad.why ≡ ThreeRefused.NoExchange b c e
         → IsFirstUnexchanged (map_of raw) b c e) }
-    ensures relation { IfErr result (λ bad. (p q : Chosen) → bad.why ≡ ThreeRefused.ThreeTerm p q → HasExchange (map_of raw)
-        × IsFirstUnbalanced (map_of raw) p q) }
+    ensures relation { IfErr result (λ bad. (p q : Chosen) → bad.why ≡ ThreeRefused.ThreeTerm p q
+        → HasExchange (map_of raw) × IsFirstUnbalanced (map_of raw) p q) }
 {
     match first_failure(rt, &WholeMap { raw: &raw }) {
         None => Ok(Chirotope::lawful(raw)),

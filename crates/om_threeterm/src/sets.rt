@@ -19,13 +19,11 @@ pub fn fill(elements: u8, size: u8, table: &mut [Subset])
     requires room { length table.old ≤ choose elements size }
     ensures { table.new ≡ take (length table.old) (all_chosen elements size) }
 {
-    if size > elements {
-        return;
-    }
-    let mut s = Subset::first(size, elements);
-    for place in 0..table.len() {
-        table[place] = s;
-        s = s.following();
+    for (place, set) in Subset::all(size, elements).enumerate() {
+        if place == table.len() {
+            return;
+        }
+        table[place] = set;
     }
 }
 

@@ -1,3 +1,5 @@
+ghost use Rattle.std.specs.Prelude.{◌≡◌};
+
 use om_signs::NoMemory;
 use thiserror::Error;
 
@@ -12,8 +14,16 @@ pub enum SignsError {
     Memory,
 }
 
+impl SignsError {
+    /// The error of a call that only memory can stop.
+    pub fn memory_alone(self) -> NoMemory
+        requires { self ≡ SignsError.Memory }
+    {
+        NoMemory
+    }
+}
+
 impl From<NoMemory> for SignsError {
-    ghost use Rattle.std.specs.Prelude.{◌≡◌};
     ghost use Rattle.om_vectors.specs.declared.signs_error.SignsError.TheVariants.{Memory};
 
     ghost from_gives = { λ _ e. e ≡ Memory };

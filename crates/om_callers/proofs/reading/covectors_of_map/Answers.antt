@@ -10,6 +10,7 @@ use Rattle.om_denotation.specs.Covectors.{IsCovectorOfChirotope}
 use Rattle.om_denotation.specs.Listings.{AreAllOf, HasMoreThan}
 use Rattle.om_convert.specs.Limits.{IsCause}
 use Rattle.om_convert.specs.declared.convert_error.ConvertError.TheVariants.{TooMany}
+use Rattle.om_convert.proofs.MemoryCauses.{memory_is_cause}
 use Rattle.om_callers.specs.Readings.{IsViolated}
 use Rattle.om_callers.proofs.reading.covectors_of_map.Goals as goal
 
@@ -27,11 +28,11 @@ returns-in-Ok-chirotope_to_covectors _ c =
       cause = tt;
     }
 
-pub returns-in-Err-TooMany : goal.returns-in-Err-TooMany
-returns-in-Err-TooMany _ c =
+pub returns-in-TooMany : goal.returns-in-TooMany
+returns-in-TooMany _ c =
     let P = IsCovectorOfChirotope c.in-Ok.chirotope in
-    let many : IsCause P (TooMany c.in-Err-TooMany.limit) =
-    subst (IsCause P) c.in-Err-TooMany.field-0-is c.in-Err-TooMany.ensures.many in
+    let many : IsCause P (TooMany c.in-TooMany.limit) =
+    subst (IsCause P) c.in-TooMany.is c.in-Err-chirotope_to_covectors.ensures.many in
     record {
       covectors = tt;
       cause = record {
@@ -41,10 +42,10 @@ returns-in-Err-TooMany _ c =
       };
     }
 
-pub unreachable-unreachable : goal.unreachable-unreachable
-unreachable-unreachable _ c =
-    subst (IsCause (IsCovectorOfChirotope c.in-Ok.chirotope)) c.in-Err-TooWide.field-0-is
-    c.in-Err-TooWide.ensures.many
+pub memory_alone-requires : goal.memory_alone-requires
+memory_alone-requires _ c =
+    memory_is_cause (IsCovectorOfChirotope c.in-Ok.chirotope) c.in-Err-chirotope_to_covectors.error
+    c.in-Err-chirotope_to_covectors.ensures.many c.in_default.not-TooMany
 
 -- a reason of which both clauses of check hold is one that the map gives
 violated : (m : RawMap) (why : MapRefused) → (why ≡ AllZero → IsAllZero m.signs)

@@ -8,5 +8,5 @@ returns-in-Ok g c = cocircuits_seen g.args.chi.now g.all_cocircuits.ensures.lawf
     g.in-Ok.ensures.members (g.is_set_of.ensures.0 c)
 
 pub memory_alone-requires : goal.memory_alone-requires
-memory_alone-requires c =
-    memory_is_cause (IsCocircuitOfChirotope c.args.chi.now) c.in-Err.error c.in-Err.ensures.many c.in_default.not-TooMany
+memory_alone-requires c = memory_is_cause (IsCocircuitOfChirotope c.args.chi.now) c.in-Err.error c.in-Err.ensures.many
+    c.in_default.not-TooMany

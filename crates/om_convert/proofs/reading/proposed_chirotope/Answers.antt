@@ -15,7 +15,7 @@ missed_vector-requires g c = subst (λ k. HaveLength k c.args.vectors.now) (sym 
 pub propagated_map-requires : goal.propagated_map-requires
 propagated_map-requires g c =
     record {
-      part = subst (λ k. c.size-rank.result ≤ k) c.least_meeting.ensures.n c.size-rank.ensures.within;
+      part = subst (λ k. c.size-rank.result ≤ k) c.minimal_meeting.ensures.n c.size-rank.ensures.within;
       high = c.requires.high;
       lengths = c.requires.lengths;
     }
@@ -30,7 +30,7 @@ check-requires-clause-high g c κs within =
 pub check-requires-clause-rank : goal.check-requires-clause-rank
 check-requires-clause-rank g c κs within =
     rank_within c.in_ok-raw.raw.rank c.size-rank.result c.in_ok-raw.raw.elements c.args.elements
-    c.least_meeting.result.n c.in_ok-raw.ensures.rank c.in_ok-raw.ensures.elements c.least_meeting.ensures.n
+    c.minimal_meeting.result.n c.in_ok-raw.ensures.rank c.in_ok-raw.ensures.elements c.minimal_meeting.ensures.n
     c.size-rank.ensures.within
 
 pub check-requires-clause-whole : goal.check-requires-clause-whole

@@ -63,7 +63,8 @@ returns-in_err-insert_signed-clause-many c =
 pub returns-clause-members : goal.returns-clause-members
 returns-clause-members c =
     cocircuits_of_places c.args.chi.now
-    (let r = c.rank-rank.ensures.value in let some = c.if-rank-eq0.false in omega (arith, r, some)) (length c.loop-a.yielded)
+    (let r = c.rank-rank.ensures.value in let some = c.if-rank-eq0.false in omega (arith, r, some))
+    (length c.loop-a.yielded)
     (number_at_end c.args.chi.now.elements (c.args.chi.now.rank - 1) _ _ _
     (all_sets_of (c.into_iter-a-iterator.ensures.into_iter_gives ∙ c.all-a-items.ensures.sets)
     c.elements.ensures.value (ap (λ r. r - 1) c.rank-rank.ensures.value)) c.loop-a.yielded_by c.in-None.is

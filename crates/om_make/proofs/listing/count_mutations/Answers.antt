@@ -1,6 +1,8 @@
-use Rattle.std.specs.Prelude.{Err}
+use Rattle.std.specs.Prelude.{ℕ, ◌≡◌, Err, refl}
 use Rattle.std.proofs.Common.{ap, arith}
 use Rattle.om_subsets.proofs.Table.{choose_most}
+use Rattle.om_mutate.specs.declared.mutation_error.MutationError.{MutationError}
+use Rattle.om_mutate.specs.declared.mutation_error.MutationError.TheVariants.{NotRank3, Memory}
 use Rattle.om_make.proofs.CountLaws.{few_mutations}
 use Rattle.om_make.proofs.listing.count_mutations.Goals as goal
 
@@ -11,6 +13,11 @@ overflow_cast-result c =
     let most = choose_most c.args.chi.now.elements 3 (omega arith) in
     omega arith
 
-pub unreachable-requires : goal.unreachable-requires
-unreachable-requires c =
-    ((c.in-Err-NotRank3.ensures.rank c.in-Err-NotRank3.field-0-0).0 (ap Err c.in-Err-NotRank3.field-0-is)).1 c.requires
+-- the only error that isn't of the rank is of memory
+memory_left : (e : MutationError) → ((r : ℕ) → e ≡ NotRank3 r → ⊥) → e ≡ Memory
+memory_left (NotRank3 r) three = absurd (three r refl)
+memory_left Memory three = refl
+
+pub memory_alone-requires : goal.memory_alone-requires
+memory_alone-requires c =
+    memory_left c.in-Err.error (λ r is. ((c.in-Err.ensures.rank r).0 (ap Err is)).1 c.requires)

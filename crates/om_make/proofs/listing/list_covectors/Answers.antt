@@ -1,15 +1,13 @@
-use Rattle.std.proofs.Common.{subst}
-use Rattle.om_convert.specs.Limits.{IsCause}
+use Rattle.om_convert.proofs.MemoryCauses.{memory_within_limit}
 use Rattle.om_denotation.specs.Covectors.{IsCovectorOfChirotope}
 use Rattle.om_make.proofs.CovectorCounts.{few_covectors}
 use Rattle.om_make.proofs.listing.list_covectors.Goals as goal
 
-pub unreachable-requires-in-Err-TooMany : goal.unreachable-requires-in-Err-TooMany
-unreachable-requires-in-Err-TooMany c =
-    let cause = subst (IsCause (IsCovectorOfChirotope c.args.chi.now)) c.in-Err-TooMany.field-0-is
-    c.in-Err-TooMany.ensures.many in
-    few_covectors c.args.chi.now c.chirotope_to_covectors.ensures.lawful c.requires
-    c.chirotope_to_covectors.ensures.high cause.1
+pub memory_alone-requires : goal.memory_alone-requires
+memory_alone-requires c =
+    memory_within_limit (IsCovectorOfChirotope c.args.chi.now) c.in-Err.error c.in-Err.ensures.many
+    (few_covectors c.args.chi.now c.chirotope_to_covectors.ensures.lawful c.requires
+    c.chirotope_to_covectors.ensures.high)
 
 pub returns-in-Ok-clause-list : goal.returns-in-Ok-clause-list
 returns-in-Ok-clause-list c =

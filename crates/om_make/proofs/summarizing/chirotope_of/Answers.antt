@@ -1,14 +1,19 @@
 use Rattle.std.proofs.Common.{length, length-take, ap, subst, ◌∙◌, arith}
-use Rattle.std.specs.Prelude.{Err}
+use Rattle.std.specs.Prelude.{◌≡◌, Err, refl}
 use Rattle.om_vectors.specs.Realizations.{IsRankLow, signs_map}
+use Rattle.om_vectors.specs.declared.signs_error.SignsError.{SignsError}
+use Rattle.om_vectors.specs.declared.signs_error.SignsError.TheVariants.{RankLow, Memory}
 use Rattle.om_make.proofs.GeneratorLaws.{units_span}
 use Rattle.om_make.proofs.summarizing.chirotope_of.Goals as goal
 
-pub unreachable-requires : goal.unreachable-requires
-unreachable-requires c =
-    units_span c.args.vectors.now c.requires
-    (subst IsRankLow c.as_slice.ensures.value (c.in-Err-RankLow.ensures.rank_low.0 (ap Err
-    c.in-Err-RankLow.field-0-is)))
+-- the only error that isn't of the rank is of memory
+memory_left : (e : SignsError) → (e ≡ RankLow → ⊥) → e ≡ Memory
+memory_left RankLow high = absurd (high refl)
+memory_left Memory high = refl
+
+pub memory_alone-requires : goal.memory_alone-requires
+memory_alone-requires c = memory_left c.in-Err.error (λ low. units_span c.args.vectors.now c.requires
+    (subst IsRankLow c.as_slice.ensures.value (c.in-Err.ensures.rank_low.0 (ap Err low))))
 
 pub signs_of-requires-clause-low : goal.signs_of-requires-clause-low
 signs_of-requires-clause-low c =

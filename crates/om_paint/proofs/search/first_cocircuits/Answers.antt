@@ -59,7 +59,8 @@ loop-a-preserved g c =
           (met_more (cocircuit_vector c.args.chi.now) (g.C.Classes.holds c.args.classes.now) c.args.chi.now.elements
           (c.args.chi.now.rank - 1) (length c.loop-a.yielded) c.in-Some.a.elements c.loop-a.firsts
           c.meet.new.firsts c.meet-in-loop-a.new.firsts c.cocircuit_of-u.result c.neg-negative.result
-          c.loop-a.invariant.2 turn.here c.cocircuit_of-u.ensures c.neg-negative.ensures c.meet.ensures c.meet-in-loop-a.ensures),
+          c.loop-a.invariant.2 turn.here c.cocircuit_of-u.ensures c.neg-negative.ensures c.meet.ensures
+          c.meet-in-loop-a.ensures),
     )
 
 pub returns : goal.returns

@@ -8,5 +8,6 @@ returns-in-Err-Bad-clause-refused g c =
     let h = subst (IsSetReadError c.args.list) c.in-Err-Bad.field-0-is c.in-Err-Bad.ensures.refused in
     (c.in-Err-Bad.bad.why, (refl, h.first))
 
-pub unreachable-requires : goal.unreachable-requires
-unreachable-requires g c = subst (IsSetReadError c.args.list) c.in-Err-Memory.field-0-is c.in-Err-Memory.ensures.refused
+pub returns-clause-refused : goal.returns-clause-refused
+returns-clause-refused g c =
+    absurd (subst (IsSetReadError c.args.list) c.in-Err-Memory.field-0-is c.in-Err-Memory.ensures.refused)

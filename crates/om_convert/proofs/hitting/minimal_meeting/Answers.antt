@@ -2,8 +2,8 @@ use Rattle.std.proofs.Common.{arith, subst, sym}
 use Rattle.om_members.specs.Listings.{HaveLength}
 use Rattle.om_subsets.specs.Subsets.{IsSubsetFrom}
 use Rattle.om_convert.specs.Hitting.{IsNonzeroMember}
-use Rattle.om_convert.proofs.MeetingLaws.{all_meet, narrowed_start, narrowed_more, narrowed_least}
-use Rattle.om_convert.proofs.hitting.least_meeting.Goals as goal
+use Rattle.om_convert.proofs.MeetingLaws.{all_meet, narrowed_start, narrowed_more, narrowed_minimal}
+use Rattle.om_convert.proofs.hitting.minimal_meeting.Goals as goal
 
 pub loop-e-init : goal.loop-e-init
 loop-e-init c = narrowed_start c.args.elements (IsNonzeroMember c.args.vectors.now) c.first-set.result.n
@@ -33,6 +33,7 @@ returns-clause-n c = c.loop-e.invariant.n_is
 pub returns-clause-lawful : goal.returns-clause-lawful
 returns-clause-lawful c = c.loop-e.invariant.lawful
 
-pub returns-clause-least : goal.returns-clause-least
-returns-clause-least c = narrowed_least c.args.elements (IsNonzeroMember c.args.vectors.now) c.loop-e.e c.loop-e.set.n
+pub returns-clause-minimal : goal.returns-clause-minimal
+returns-clause-minimal c =
+    narrowed_minimal c.args.elements (IsNonzeroMember c.args.vectors.now) c.loop-e.e c.loop-e.set.n
     c.loop-e.set.elements c.loop-e-test.false c.loop-e.invariant
