@@ -9,7 +9,7 @@ use Rattle.om_certificate.specs.declared.verdict.Verdict.{Verdict}
 use Rattle.om_certificate.specs.declared.verdict.Verdict.TheVariants as verdict
 use Rattle.om_document.specs.declared.code.Code.{Code}
 use Rattle.om_document.specs.declared.code.Code.TheVariants as code
-use Rattle.om_lines.specs.Lines.{is_line, end_line}
+use Rattle.om_lines.specs.Lines.{is_line}
 use Rattle.om_text.specs.Steps.{advance_by, outcome_by}
 use Rattle.om_answer.specs.declared.block.Block.{Block}
 use Rattle.om_answer.specs.declared.block.Block.TheVariants.{Empty, Vectors, Entries, Weights, Tableau, Pivots, Tested}
@@ -20,13 +20,20 @@ use Rattle.om_answer.specs.BlockLines.{vector_of, entry_of, weight_of, pivots_of
 use Rattle.om_reply.specs.VerdictText.{word_line}
 use Rattle.om_answer.specs.Block.{MOST_VECTORS, MOST_WEIGHTS}
 
+-- the state beside the word that is alone on the line, or the other outcome if it is none of these
+abbrev pub by_word : List (List ℕ) → List (List ℕ × Block) → Result Block Code → Result Block Code
+by_word w [] other = other
+by_word w (row ∷ rows) other = cond (is_line w (word_line row.0)) (Ok row.1) (by_word w rows other)
+
 -- the block that a verdict word opens
 abbrev pub opened : List (List ℕ) → Result Block Code
 opened w =
-    cond (is_line w (word_line (codes "realizable"))) (Ok (Vectors []))
-    (cond (is_line w (word_line (codes "nonrealizable"))) (Ok (Entries []))
-    (cond (is_line w (word_line (codes "undecided"))) (Ok (Weights []))
-    (cond (is_line w (word_line (codes "limit"))) (Ok Tableau) (Err code.Claim))))
+    by_word w
+    ((codes "realizable", Vectors [])
+    ∷ (codes "nonrealizable", Entries [])
+    ∷ (codes "undecided", Weights [])
+    ∷ (codes "limit", Tableau)
+    ∷ []) (Err code.Claim)
 
 -- the items with one more, if there is room for it
 abbrev pub next_item : {A : Type 0} → ℕ → List A → Option A → Result (List A) Code
@@ -64,8 +71,7 @@ with_basis p (Some b) = Ok (Tested (lp_end.Pivots p b))
 
 -- the state after the end of a search, or the other outcome if the line isn't one
 abbrev pub searched : Front → List (List ℕ) → Result Block Code → Result Block Code
-searched f w other = cond (is_line w (word_line (codes "exhausted"))) (Ok (Exhausted f))
-    (cond (is_line w (word_line (codes "frontier"))) (Ok (Frontier f [])) other)
+searched f w other = by_word w ((codes "exhausted", Exhausted f) ∷ (codes "frontier", Frontier f []) ∷ []) other
 
 -- the verdict of what comes before the end of a search, and of this end
 abbrev pub ended : Front → Unfound → Verdict
@@ -74,7 +80,7 @@ ended (front.Tableau e) u = verdict.Limit e u
 
 -- the verdict if the line is `end`, or the other outcome
 abbrev pub closed : Verdict → List (List ℕ) → Result Block Code → Result Block Code
-closed v w other = cond (is_line w end_line) (Ok (Closed v)) other
+closed v w other = by_word w ((codes "end", Closed v) ∷ []) other
 
 -- the state after one more non-blank line
 abbrev pub block_step : Block → List (List ℕ) → Result Block Code

@@ -104,10 +104,7 @@ impl MemberSet {
         ensures many { IfErr result (IsCause (IsOldOrAdded self.old (λ X. X ≡ x))) }
         ensures memory_only_with_room { result ≡ Err ConvertError.Memory → length self.old < MAX_MEMBERS }
     {
-        if self.set.contains(&x) {
-            return Ok(());
-        }
-        if self.is_full() {
+        if self.is_full() && !self.set.contains(&x) {
             return Err(ConvertError::TooMany {
                 limit: MAX_MEMBERS as u32,
             });

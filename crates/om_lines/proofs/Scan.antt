@@ -30,7 +30,8 @@ position_or p xs o q = rw q (elim (cases_lt (position_or_len p xs) (length xs)) 
 take_one : (k b : ℕ) (bs : List ℕ) → take (1 + k) (b ∷ bs) ≡ b ∷ take k bs
 take_one k b bs = let e : 1 + k ≡ suc k = omega arith in rw e refl
 
-drop_one : (k b : ℕ) (bs : List ℕ) → drop (1 + k) (b ∷ bs) ≡ drop k bs
+-- the bytes behind one more byte
+pub drop_one : (k b : ℕ) (bs : List ℕ) → drop (1 + k) (b ∷ bs) ≡ drop k bs
 drop_one k b bs = let e : 1 + k ≡ suc k = omega arith in rw e refl
 
 drop_two : (k b : ℕ) (bs : List ℕ) → drop (1 + k + 1) (b ∷ bs) ≡ drop (k + 1) bs

@@ -109,5 +109,8 @@ pub fn is_only_word(line: &[u8], word: &[u8]) -> bool
 pub fn is_end(line: &[u8]) -> bool
     ensures { result ≡ is_line (runs line.now) end_line }
 {
-    is_only_word(line, b"end")
+    match line[blank_len(line)..].strip_prefix(b"end") {
+        Some(rest) => has_no_words(rest),
+        None => false,
+    }
 }

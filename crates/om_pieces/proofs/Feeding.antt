@@ -11,7 +11,8 @@ use Rattle.om_lines.specs.Lines.{end_line, first_word, has_any, words, with_firs
 use Rattle.om_pieces.specs.declared.seen.Seen.{Seen}
 use Rattle.om_pieces.specs.declared.seen.Seen.TheVariants.{Blank}
 use Rattle.om_pieces.specs.Pieces.{full_lines, without_line_feed, has_word, closes, opens, bytes_of, IsCut, HasOneCut}
-use Rattle.om_pieces.specs.Making.{Making, most, seen_with, some_seen, end_seen, om_seen, with_line, nothing}
+use Rattle.om_pieces.specs.SeenOfLine.{seen_with, some_seen, end_seen, om_seen}
+use Rattle.om_pieces.specs.Making.{Making, most, with_line, nothing}
 use Rattle.om_pieces.specs.Making.{lengthened, begun_anew, with_end, with_more, fed, last_ended, rest_of, option_list}
 use Rattle.om_pieces.specs.Making.{completed, made}
 use Rattle.om_pieces.proofs.Takes.{take_grows, take_both, take_none}

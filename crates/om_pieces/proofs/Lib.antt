@@ -3,3 +3,4 @@ pub mod Looks
 pub mod Cutting
 pub mod Feeding
 pub mod GivingBack
+pub mod Steps

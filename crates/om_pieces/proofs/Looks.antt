@@ -10,7 +10,7 @@ use Rattle.om_lines.specs.Lines.{is_line}
 use Rattle.om_pieces.specs.declared.seen.Seen.{Seen}
 use Rattle.om_pieces.specs.declared.seen.Seen.TheVariants.{Blank, BlankComment, E, En, End, EndBlank, EndComment, O, Om}
 use Rattle.om_pieces.specs.declared.seen.Seen.TheVariants.{OmMore, Other}
-use Rattle.om_pieces.specs.Making.{with_comment, with_blank, with_letter, seen_with, some_seen, end_seen, om_seen}
+use Rattle.om_pieces.specs.SeenOfLine.{with_comment, with_blank, with_letter, seen_with, some_seen, end_seen, om_seen}
 
 -- what is seen of bytes behind what was seen
 abbrev pub seen_from : Seen → List ℕ → Seen

@@ -1,8 +1,8 @@
 //! What was seen of a line so far.
 
 ghost use Rattle.std.specs.Prelude.{◌≡◌};
-ghost use Rattle.om_pieces.specs.Making.{with_comment, with_blank, with_letter, seen_with};
-ghost use Rattle.om_pieces.specs.Making.{some_seen, end_seen, om_seen};
+ghost use Rattle.om_pieces.specs.SeenOfLine.{with_comment, with_blank, with_letter, seen_with};
+ghost use Rattle.om_pieces.specs.SeenOfLine.{some_seen, end_seen, om_seen};
 
 use om_lines::lines::is_blank_byte;
 

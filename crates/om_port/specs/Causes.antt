@@ -1,4 +1,4 @@
-use Rattle.std.specs.Prelude.{ℕ, ◌≡◌, ◌+◌, ◌-◌, ◌^◌, ◌≤◌, min, cond, List, length, OnErr, is_err}
+use Rattle.std.specs.Prelude.{ℕ, ◌≡◌, ◌+◌, ◌-◌, ◌^◌, ◌≤◌, min, cond, List, length, IfSome, OnErr, is_err}
 use Rattle.std.specs.declared.result.Result.{Result}
 use Rattle.std.specs.declared.option.Option.{Option}
 use Rattle.std.specs.Io.KnownBytes.{Consumes}
@@ -35,3 +35,7 @@ TakesAtLeast n old new = (bs : List ℕ) × Consumes old new bs × (n ≤ length
 -- some first bytes were taken
 abbrev pub TakesSome : Option (List ℕ) → Option (List ℕ) → Type 0
 TakesSome old new = (bs : List ℕ) × Consumes old new bs
+
+-- all bytes that were left were taken
+abbrev pub TakesAll : Option (List ℕ) → Option (List ℕ) → Type 0
+TakesAll old new = IfSome old (λ bytes. Consumes old new bytes)

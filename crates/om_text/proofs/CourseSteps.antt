@@ -22,7 +22,7 @@ use Rattle.om_document.specs.Settings.{version_of, begins_as_setting, settings_i
 use Rattle.om_document.specs.Document.{IsSpelled, is_body_line, has_signs, has_length, has_blocks, has_numbers, filled}
 use Rattle.om_document.specs.Document.{has_room, is_complete}
 use Rattle.om_document.specs.Heading.{kind_of, heading, has_elements, has_rank, has_size, rank_of_body, values_of_body}
-use Rattle.om_text.specs.Reading.{step, with_version, after_kind, first_stage, draft_of, first_draft, in_size}
+use Rattle.om_text.specs.Reading.{step, with_version, after_kind, first_stage, draft_of, first_draft}
 use Rattle.om_text.specs.Reading.{with_heading, takes_settings, after_setting, after_body, finished_draft, after_end}
 use Rattle.om_text.specs.Reading.{added}
 use Rattle.om_lines.proofs.WordLines.{is_line-Decides}
@@ -87,9 +87,9 @@ pub record IsOpened (v : Version) (d : Document) (t : State) : Type 0 where
 
 pub heading_ok : (v : Version) (d : Document) (t : State) → with_heading v (Some d) ≡ Ok t → IsOpened v d t
 heading_ok v d t h =
-    let a = cond_ok (has_elements d) (cond (has_rank d) (in_size v d) (Err (code.Rank (rank_of_body d.body))))
+    let a = cond_ok (has_elements d) _
     (code.Elements d.elements) t h in
-    let b = cond_ok (has_rank d) (in_size v d) (code.Rank (rank_of_body d.body)) t a.1 in
+    let b = cond_ok (has_rank d) _ (code.Rank (rank_of_body d.body)) t a.1 in
     let c = cond_ok (has_size d) (Ok (Open (first_draft v d))) (code.Size (values_of_body d.body)) t b.1 in
     record { elements = a.0; rank = b.0; size = c.0; state = ok-injective _ _ c.1 }
 

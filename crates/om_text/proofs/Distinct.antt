@@ -1,6 +1,7 @@
 -- The distinct members of a list, member by member.
 --
--- Main results: distinct-append, distinct-each, with_member_grows, with_each_grows, any_same_row
+-- Main results: distinct-append, distinct-each, with_member_grows, with_each_grows, any_same_row,
+-- member_tested
 use Rattle.std.proofs.Common.{◌≡◌, ◌≤◌, List, [], ◌∷◌, ◌++◌, Bool, true, false, cond, not, ◌||◌, inl, inr}
 use Rattle.std.proofs.Common.{length, refl, sym, ap, ◌∙◌, arith, length-append, append_assoc, append-nil}
 use Rattle.std.specs.Prelude.{filter}
@@ -100,3 +101,10 @@ pub any_same_row : (x : List Sign) (ms : List (List Sign))
 any_same_row x [] = refl
 any_same_row x (y ∷ ys) = ap (λ b. b || list_any (λ y. same_masks y x) ys) (same_masks_row y x)
     ∙ ap (λ b. same_row y x || b) (any_same_row x ys)
+
+-- the members with one more, after the test whether it is one of them
+pub member_tested : (ms xs : List (List Sign)) (x : List Sign) (found : Bool)
+    → found ≡ list_any (λ y. same_masks y x) xs → xs ≡ ms → with_member ms x ≡ cond found ms (ms ++ x ∷ [])
+member_tested ms xs x found v s =
+    ap (λ b. cond b ms (ms ++ x ∷ []))
+    (sym (v ∙ ap (list_any (λ y. same_masks y x)) s ∙ any_same_row x ms))

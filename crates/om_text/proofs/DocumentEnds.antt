@@ -19,7 +19,7 @@ use Rattle.om_document.specs.declared.version.Version.{Version}
 use Rattle.om_document.specs.Settings.{version_of, begins_as_setting, other_words, is_names_line, setting_in}
 use Rattle.om_document.specs.Document.{has_signs, has_length, has_blocks, has_numbers, has_room, is_complete}
 use Rattle.om_document.specs.Heading.{kind_of, heading, has_elements, has_rank, has_size, rank_of_body, values_of_body}
-use Rattle.om_text.specs.Reading.{step, advance, with_version, first_draft, in_size, with_heading, takes_settings}
+use Rattle.om_text.specs.Reading.{step, advance, with_version, first_draft, with_heading, takes_settings}
 use Rattle.om_text.specs.Reading.{with_names, with_setting, after_choice, after_setting, after_body, finished_draft}
 use Rattle.om_text.specs.Reading.{after_end, added, is_closed}
 use Rattle.om_text.specs.Steps.{step_if}
@@ -109,8 +109,8 @@ heading_not : (v : Version) (o : Option Document) (c : Code) → with_heading v 
 heading_not v None c h = keeps_not false code.Header c (Err code.Header) (λ e. cc) (λ g e. cc) h
 heading_not v (Some d) c h =
     keeps_not (has_elements d) (code.Elements d.elements) c
-    (cond (has_rank d) (in_size v d) (Err (code.Rank (rank_of_body d.body)))) (λ e. cc)
-    (λ g. keeps_not (has_rank d) (code.Rank (rank_of_body d.body)) c (in_size v d) (λ e. cc)
+    _ (λ e. cc)
+    (λ g. keeps_not (has_rank d) (code.Rank (rank_of_body d.body)) c _ (λ e. cc)
     (λ k. keeps_not (has_size d) (code.Size (values_of_body d.body)) c (Ok (Open (first_draft v d))) (λ e. cc)
     (no_error _ c) k) g) h
 

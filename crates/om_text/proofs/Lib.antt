@@ -8,6 +8,7 @@ pub mod StepErrors
 pub mod Course
 pub mod Completion
 pub mod Outcome
+pub mod PassedTests
 pub mod BodyLines
 pub mod DocumentEnds
 pub mod ReadLines

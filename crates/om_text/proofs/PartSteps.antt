@@ -2,10 +2,10 @@
 --
 -- Main definitions: list_with_line
 -- Main results: memory_out, point_unread, point_beyond, point_added, word_refused, block_added, list_step,
--- signs_counted, no_signs_counted, no_values_read, values_beyond, values_added, still_refused, names_taken, no_names_taken, name_refused, all_names, names_missing, closed,
--- not_closed
-use Rattle.std.proofs.Common.{◌≡◌, ℕ, ◌+◌, ◌<◌, ◌≤◌, List, [], ◌∷◌, ◌++◌, Bool, true, false, cond, length, refl, sym, ap}
-use Rattle.std.proofs.Common.{subst, ◌∙◌, append_assoc, append-nil, arith, inl, inr}
+-- signs_counted, no_signs_counted, no_values_read, values_beyond, values_added, still_refused, names_taken,
+-- no_names_taken, name_refused, all_names, names_missing, closed, not_closed
+use Rattle.std.proofs.Common.{◌≡◌, ℕ, ◌+◌, ◌<◌, ◌≤◌, List, [], ◌∷◌, ◌++◌, Bool, true, false, cond, length, refl}
+use Rattle.std.proofs.Common.{sym, ap, subst, ◌∙◌, append_assoc, append-nil, arith, inl, inr}
 use Rattle.std.specs.Prelude.{ℤ, Option, Some, None, Result, Ok, Err, IsOkAnd, IsErrAnd, MatchResult, nat_eq, nat_le}
 use Rattle.std.specs.Prelude.{◌&&◌, ◌≢◌}
 use Rattle.std.specs.Result.{result_map_both}
@@ -38,7 +38,9 @@ use Rattle.om_text.specs.declared.draft.Draft.{Draft}
 use Rattle.om_text.specs.declared.state.State.TheVariants.{Open, Closed}
 use Rattle.om_text.specs.Reading.{with_line_members, with_names, after_choice, after_names, finished_draft, after_end}
 use Rattle.om_text.specs.ReaderParts.{IsStepUnlessMemory, sign_count, members_within_limit, members_with_line}
-use Rattle.om_text.specs.ReaderParts.{blocks_with_line, body_with_line}
+use Rattle.om_text.specs.ReaderParts.{list_tests, blocks_with_line, body_with_line}
+use Rattle.om_text.specs.Steps.{if_passed}
+use Rattle.om_text.proofs.PassedTests.{if_passed_map}
 
 -- nothing is said of a part that memory ran out in
 pub memory_out : {A : Type 0} (r : Result A Refusal) (read : Result A Code) → IsErrAnd r (λ e. e ≡ refusal.Memory)
@@ -96,27 +98,16 @@ step_mapped f (Err (refusal.Line c)) q read m h = rw (m, h) refl
 abbrev pub list_with_line : (List (List Sign) → Body) → Setting → ℕ → List (List Sign) → List (List ℕ)
     → Result Body Code
 list_with_line K s n ms w =
-    cond (are_signs w)
-    (cond (nat_eq (length (concat w)) n)
-    (cond (nat_le (length (with_line_members s ms w)) MAX_MEMBERS) (Ok (K (with_line_members s ms w))) (Err code.Many))
-    (Err code.Length)) (Err code.Sign)
+    if_passed (list_tests s n ms w) (K (with_line_members s ms w))
 
 -- a list reads a line as its members do
 pub list_step : (K : List (List Sign) → Body) (s : Setting) (n : ℕ) (ms : List (List Sign)) (w : List (List ℕ))
     (r : Result (List (List Sign)) Refusal) (q : Result Body Refusal)
     → MatchResult r (λ x. IsOkAnd q (λ y. y ≡ K x)) (λ e. q ≡ Err e)
     → IsStepUnlessMemory r (members_with_line s n ms w) → IsStepUnlessMemory q (list_with_line K s n ms w)
-list_step K s n ms w r q m h = rw (at (are_signs w) (nat_eq (length (concat w)) n)
-    (nat_le (length (with_line_members s ms w)) MAX_MEMBERS)) (step_mapped K r q (members_with_line s n ms w) m h)
-  where
-    at : (a b c : Bool)
-        → cond a (cond b (cond c (Ok (K (with_line_members s ms w))) (Err code.Many)) (Err code.Length)) (Err code.Sign)
-        ≡ result_map_both K (λ c. c)
-        (cond a (cond b (cond c (Ok (with_line_members s ms w)) (Err code.Many)) (Err code.Length)) (Err code.Sign))
-    at true true true = refl
-    at true true false = refl
-    at true false c = refl
-    at false b c = refl
+list_step K s n ms w r q m h =
+    let made = if_passed_map K (list_tests s n ms w) (with_line_members s ms w) in
+    rw made (step_mapped K r q (members_with_line s n ms w) m h)
 
 -- the signs of a line are counted if there is no other byte
 pub signs_counted : (w : List (List ℕ)) (o : Option ℕ) (k : ℕ) → o ≡ Some k → o ≡ sign_count w

@@ -26,7 +26,7 @@ use Rattle.om_document.specs.Document.{has_room, is_complete}
 use Rattle.om_document.specs.Heading.{kind_of, heading, has_elements, has_rank, has_size, rank_of_body, values_of_body}
 use Rattle.om_text.specs.Fault.{kind, setting, body, «end», after, role_in_body, role_after_kind, role, when, first_of}
 use Rattle.om_text.specs.Fault.{table}
-use Rattle.om_text.specs.Reading.{step, with_version, after_kind, draft_of, first_draft, in_size, with_heading}
+use Rattle.om_text.specs.Reading.{step, with_version, after_kind, draft_of, first_draft, with_heading}
 use Rattle.om_text.specs.Reading.{takes_settings, after_setting, after_body, finished_draft, after_end, added}
 use Rattle.om_text.proofs.Filling.{line_not_end, has_signs_filled, has_length_filled, has_blocks_filled}
 use Rattle.om_text.proofs.Filling.{has_numbers_filled, filled_added}
@@ -155,10 +155,10 @@ heading_rows : (v : Version) (o : Option Document) (c : Code) (tail : List (Opti
 heading_rows v None c tail h = cc
 heading_rows v (Some d) c tail h =
     rows_not (has_elements d) (code.Elements d.elements) c
-    (cond (has_rank d) (in_size v d) (Err (code.Rank (rank_of_body d.body))))
+    _
     (when (not (has_rank d)) (code.Rank (rank_of_body d.body))
     ∷ when (not (has_size d)) (code.Size (values_of_body d.body)) ∷ tail)
-    (λ g. rows_not (has_rank d) (code.Rank (rank_of_body d.body)) c (in_size v d)
+    (λ g. rows_not (has_rank d) (code.Rank (rank_of_body d.body)) c _
     (when (not (has_size d)) (code.Size (values_of_body d.body)) ∷ tail)
     (λ k. rows_not (has_size d) (code.Size (values_of_body d.body)) c (Ok (Open (first_draft v d))) tail
     (no_error _ c tail) k) g) h

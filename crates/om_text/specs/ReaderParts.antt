@@ -1,6 +1,6 @@
 -- What the parts of the reader's code do with one more line. Not part of the definition of documents.
-use Rattle.std.specs.Prelude.{ℕ, ◌≡◌, ◌≢◌, ◌≤◌, List, ◌++◌, cond, nat_eq, nat_le, Bool, true, Option, Some, None}
-use Rattle.std.specs.Prelude.{Result, Ok, Err, length}
+use Rattle.std.specs.Prelude.{ℕ, ◌≡◌, ◌≢◌, ◌≤◌, List, [], ◌∷◌, ◌++◌, cond, nat_eq, nat_le, Bool, true, Option, Some}
+use Rattle.std.specs.Prelude.{None, Result, Ok, Err, length}
 use Rattle.std.specs.List.{concat}
 use Rattle.om_signs.specs.declared.limits.TheConstants.{MAX_ELEMENTS, MAX_MEMBERS}
 use Rattle.om_signs.specs.declared.block.Block.{Block}
@@ -21,11 +21,11 @@ use Rattle.om_text.specs.declared.parse_error.ParseError.TheVariants as error
 use Rattle.om_document.specs.declared.setting.Setting.{Setting}
 use Rattle.om_text.specs.Fault.{IsFault}
 use Rattle.om_text.specs.Part.{IsDocumentAtFront}
-use Rattle.om_text.specs.Reading.{with_line_members, added_body, outcome}
+use Rattle.om_text.specs.Steps.{if_passed}
+use Rattle.om_text.specs.Reading.{with_line_members, added_body, line_tests, outcome}
 use Rattle.om_lines.specs.Lines.{lines}
 use Rattle.om_document.specs.Blocks.{are_blocks, blocks_on}
-use Rattle.om_document.specs.Document.{are_signs, has_signs_in, has_length_in, has_blocks_in, has_numbers_in, size_of}
-use Rattle.om_document.specs.Document.{room_of}
+use Rattle.om_document.specs.Document.{are_signs}
 
 -- a part of the reader returns this value, or refuses with this code, unless memory ran out
 abbrev pub IsStepUnlessMemory : {A : Type 0} → Result A Refusal → Result A Code → Type 0
@@ -37,33 +37,29 @@ IsStepUnlessMemory (Err (refusal.Line c)) read = read ≡ Err c
 abbrev pub sign_count : List (List ℕ) → Option ℕ
 sign_count w = cond (are_signs w) (Some (length (concat w))) None
 
--- a body on n elements that isn't larger than it may be
-abbrev pub body_within_limit : ℕ → Body → Result Body Code
-body_within_limit n b = cond (nat_le (size_of b) (room_of b n)) (Ok b) (Err code.Many)
-
 -- the members of a list, if they are no more than allowed
 abbrev pub members_within_limit : List (List Sign) → Result (List (List Sign)) Code
-members_within_limit ms = cond (nat_le (length ms) MAX_MEMBERS) (Ok ms) (Err code.Many)
+members_within_limit ms = if_passed ((nat_le (length ms) MAX_MEMBERS, code.Many) ∷ []) ms
+
+-- the tests of one more line of a list on n elements, each beside the code of a line that fails it
+abbrev pub list_tests : Setting → ℕ → List (List Sign) → List (List ℕ) → List (Bool × Code)
+list_tests s n ms w =
+    (are_signs w, code.Sign)
+    ∷ (nat_eq (length (concat w)) n, code.Length)
+    ∷ (nat_le (length (with_line_members s ms w)) MAX_MEMBERS, code.Many)
+    ∷ []
 
 -- the members of a list on n elements with those of one more line
 abbrev pub members_with_line : Setting → ℕ → List (List Sign) → List (List ℕ) → Result (List (List Sign)) Code
-members_with_line s n ms w =
-    cond (are_signs w)
-    (cond (nat_eq (length (concat w)) n) (members_within_limit (with_line_members s ms w)) (Err code.Length))
-    (Err code.Sign)
+members_with_line s n ms w = if_passed (list_tests s n ms w) (with_line_members s ms w)
 
 -- blocks with those of a line
 abbrev pub blocks_with_line : List Block → List (List ℕ) → Result (List Block) Code
-blocks_with_line bs w = cond (are_blocks w) (Ok (bs ++ blocks_on w)) (Err code.Block)
+blocks_with_line bs w = if_passed ((are_blocks w, code.Block) ∷ []) (bs ++ blocks_on w)
 
 -- a body on n elements with one more line
 abbrev pub body_with_line : Setting → ℕ → Body → List (List ℕ) → Result Body Code
-body_with_line s n b w =
-    cond (has_signs_in b w)
-    (cond (has_length_in b n w)
-    (cond (has_blocks_in b w)
-    (cond (has_numbers_in b w) (body_within_limit n (added_body s b w)) (Err code.Number)) (Err code.Block))
-    (Err code.Length)) (Err code.Sign)
+body_with_line s n b w = if_passed (line_tests s n b w) (added_body s b w)
 
 -- the numbers of a map are in range
 pub record IsMapInRange (m : RawMap) : Type 0 where

@@ -1,6 +1,6 @@
 -- Reading documents line by line: what the reader's loop follows. Not part of the definition of documents.
 use Rattle.std.specs.Prelude.{ℕ, List, [], ◌∷◌, ◌++◌, ◌&&◌, Bool, true, false, cond, map, Option, Some, None, Result}
-use Rattle.std.specs.Prelude.{Ok, Err, is_none}
+use Rattle.std.specs.Prelude.{Ok, Err, is_none, nat_le}
 use Rattle.std.specs.List.{list_any}
 use Rattle.om_signs.specs.declared.sign.Sign.{Sign}
 use Rattle.om_signs.specs.Sign.{opposite}
@@ -18,15 +18,15 @@ use Rattle.om_document.specs.declared.setting.Setting.{Setting}
 use Rattle.om_document.specs.declared.setting.Setting.TheVariants.{Plain, Half}
 use Rattle.om_document.specs.declared.version.Version.{Version}
 use Rattle.om_document.specs.declared.version.Version.TheVariants.{One, Two}
-use Rattle.om_text.specs.Steps.{advance_by, outcome_by}
+use Rattle.om_text.specs.Steps.{if_passed, advance_by, outcome_by}
 use Rattle.om_document.specs.Rows.{same_row}
 use Rattle.om_document.specs.Members.{members_of, with_members}
 use Rattle.om_document.specs.Blocks.{blocks_on}
 use Rattle.om_document.specs.Points.{point_on}
 use Rattle.om_lines.specs.Lines.{is_line, end_line, first_word}
 use Rattle.om_document.specs.Settings.{version_of, begins_as_setting, other_words, is_names_line, setting_in, finished}
-use Rattle.om_document.specs.Document.{signs_of_line, has_signs, has_length, has_blocks, has_numbers, filled, has_room}
-use Rattle.om_document.specs.Document.{is_complete}
+use Rattle.om_document.specs.Document.{signs_of_line, has_signs_in, has_length_in, has_blocks_in, has_numbers_in}
+use Rattle.om_document.specs.Document.{size_of, room_of, filled, is_complete}
 use Rattle.om_document.specs.Heading.{kind_of, heading, has_elements, has_rank, has_size, rank_of_body, values_of_body}
 
 -- the members with one more, unless it is already there
@@ -55,6 +55,16 @@ added_body s (Wiring bs) w = Wiring (bs ++ blocks_on w)
 added_body s (Points ps) w = Points (ps ++ point_on w ∷ [])
 added_body s b w = with_members b (with_line_members s (members_of b) w)
 
+-- the tests of one more line of a body on n elements, each beside the code of a line that fails it
+abbrev pub line_tests : Setting → ℕ → Body → List (List ℕ) → List (Bool × Code)
+line_tests s n b w =
+    (has_signs_in b w, code.Sign)
+    ∷ (has_length_in b n w, code.Length)
+    ∷ (has_blocks_in b w, code.Block)
+    ∷ (has_numbers_in b w, code.Number)
+    ∷ (nat_le (size_of (added_body s b w)) (room_of (added_body s b w) n), code.Many)
+    ∷ []
+
 -- a document with one more line in its body
 abbrev pub added_document : Setting → Document → List (List ℕ) → Document
 added_document s d w = record { elements = d.elements; body = added_body s d.body w; names = d.names }
@@ -77,14 +87,14 @@ draft_of names s d g =
 abbrev pub first_draft : Version → Document → Draft
 first_draft v d = draft_of [] Plain (filled Plain d []) (first_stage v)
 
--- the state that a heading opens, if its map has no more values than allowed
-abbrev pub in_size : Version → Document → Result State Code
-in_size v d = cond (has_size d) (Ok (Open (first_draft v d))) (Err (code.Size (values_of_body d.body)))
-
 -- the state that a heading opens, if its numbers are in range
 abbrev pub in_range : Version → Document → Result State Code
-in_range v d = cond (has_elements d) (cond (has_rank d) (in_size v d) (Err (code.Rank (rank_of_body d.body))))
-    (Err (code.Elements d.elements))
+in_range v d =
+    if_passed
+    ((has_elements d, code.Elements d.elements)
+    ∷ (has_rank d, code.Rank (rank_of_body d.body))
+    ∷ (has_size d, code.Size (values_of_body d.body))
+    ∷ []) (Open (first_draft v d))
 
 -- the state that a kind line opens
 abbrev pub with_heading : Version → Option Document → Result State Code
@@ -126,13 +136,7 @@ after_setting _ d w = Err code.Setting
 
 -- the state after a body line
 abbrev pub after_body : Draft → List (List ℕ) → Result State Code
-after_body d w =
-    cond (has_signs d.document w)
-    (cond (has_length d.document w)
-    (cond (has_blocks d.document w)
-    (cond (has_numbers d.document w)
-    (cond (has_room (added d w).document) (Ok (Open (added d w))) (Err code.Many)) (Err code.Number)) (Err code.Block))
-    (Err code.Length)) (Err code.Sign)
+after_body d w = if_passed (line_tests d.setting d.document.elements d.document.body w) (Open (added d w))
 
 -- the document of a draft that has all its lines
 abbrev pub finished_draft : Draft → Document
@@ -140,7 +144,7 @@ finished_draft d = finished d.document.names d.setting d.document
 
 -- the state after the end line
 abbrev pub after_end : Draft → Result State Code
-after_end d = cond (is_complete d.document) (Ok (Closed (finished_draft d))) (Err code.Few)
+after_end d = if_passed ((is_complete d.document, code.Few) ∷ []) (Closed (finished_draft d))
 
 -- the state after a line of a document that is still open
 abbrev pub open_step : Draft → List (List ℕ) → Result State Code

@@ -1,8 +1,13 @@
 -- Lines read in turn by a step from state to state, and their outcome. Not part of the definition of documents.
-use Rattle.std.specs.Prelude.{ℕ, ◌+◌, List, [], ◌∷◌, Bool, true, false, Option, Some, None, Result, Ok, Err}
+use Rattle.std.specs.Prelude.{ℕ, ◌+◌, List, [], ◌∷◌, Bool, true, false, cond, Option, Some, None, Result, Ok, Err}
 use Rattle.om_document.specs.declared.code.Code.{Code}
 use Rattle.om_document.specs.declared.code.Code.TheVariants as code
 use Rattle.om_lines.specs.Lines.{words, has_any}
+
+-- the value, if all tests pass, and otherwise the code beside the first one that fails
+abbrev pub if_passed : {A : Type 0} → List (Bool × Code) → A → Result A Code
+if_passed [] x = Ok x
+if_passed (test ∷ tests) x = cond test.0 (if_passed tests x) (Err test.1)
 
 -- a step if the test holds
 abbrev pub step_if : {S : Type 0} → (S → List (List ℕ) → Result S Code) → Bool → S → List (List ℕ) → Result S Code

@@ -1,10 +1,9 @@
 //! The lines of a body.
 
 ghost use Rattle.std.specs.Prelude.{◌≡◌, ℕ, ◌≤◌, ◌++◌, length, OnOk};
-ghost use Rattle.std.specs.List.{concat, list_any};
+ghost use Rattle.std.specs.List.{concat};
 ghost use Rattle.om_lines.specs.Lines.{runs};
 ghost use Rattle.om_document.specs.Document.{signs_of_line};
-ghost use Rattle.om_document.specs.Rows.{same_row};
 ghost use Rattle.om_text.specs.Reading.{with_member, with_each, members_on};
 ghost use Rattle.om_text.specs.ReaderParts.{IsStepUnlessMemory, IsMapInRange, IsBodyInRange, sign_count};
 ghost use Rattle.om_text.specs.ReaderParts.{members_within_limit, members_with_line, blocks_with_line, body_with_line};
@@ -65,13 +64,6 @@ fn with_values(mut map: RawMap, line: &[u8]) -> Result<Body, Refusal>
     Ok(Body::Chirotope(map))
 }
 
-/// Whether a sign vector is one of the members.
-fn has_member(members: &[SignVec], member: SignVec) -> bool
-    ensures { result ≡ list_any (λ y. same_row y member) members.now }
-{
-    members.contains(&member)
-}
-
 /// The sign vector that a line of `elements` signs spells.
 fn sign_vector(elements: u8, line: &[u8]) -> SignVec
     requires low { 1 ≤ elements }
@@ -94,7 +86,7 @@ fn sign_vector(elements: u8, line: &[u8]) -> SignVec
 fn with_row(mut members: List<SignVec>, member: SignVec) -> Result<List<SignVec>, Refusal>
     ensures { IsStepUnlessMemory result (members_within_limit (with_member members member)) }
 {
-    if !has_member(members.as_slice(), member) {
+    if !members.as_slice().contains(&member) {
         members.push(member)?;
     }
     if MAX_MEMBERS < members.len() {

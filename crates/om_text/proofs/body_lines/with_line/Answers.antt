@@ -16,24 +16,30 @@ returns-in-Chirotope c =
 
 pub returns-in-Circuits : goal.returns-in-Circuits
 returns-in-Circuits c =
-    subst (λ b. IsStepUnlessMemory c.map.result
-    (body_with_line c.args.setting c.args.elements b (runs c.args.line.now))) (sym c.in-Circuits.is)
-    (list_step Circuits c.args.setting c.args.elements c.in-Circuits.members (runs c.args.line.now) _ _ c.map.ensures.cases
-    c.with_list_line.ensures)
+    let w = runs c.args.line.now in
+    let mapped = c.map.ensures.cases in
+    let read = c.with_list_line.ensures in
+    subst (λ b. IsStepUnlessMemory c.map.result (body_with_line c.args.setting c.args.elements b w))
+    (sym c.in-Circuits.is)
+    (list_step Circuits c.args.setting c.args.elements c.in-Circuits.members w _ _ mapped read)
 
 pub returns-in-Cocircuits : goal.returns-in-Cocircuits
 returns-in-Cocircuits c =
-    subst (λ b. IsStepUnlessMemory c.map-in-Cocircuits.result
-    (body_with_line c.args.setting c.args.elements b (runs c.args.line.now))) (sym c.in-Cocircuits.is)
-    (list_step Cocircuits c.args.setting c.args.elements c.in-Cocircuits.members (runs c.args.line.now) _ _ c.map-in-Cocircuits.ensures.cases
-    c.with_list_line-in-Cocircuits.ensures)
+    let w = runs c.args.line.now in
+    let mapped = c.map-in-Cocircuits.ensures.cases in
+    let read = c.with_list_line-in-Cocircuits.ensures in
+    subst (λ b. IsStepUnlessMemory c.map-in-Cocircuits.result (body_with_line c.args.setting c.args.elements b w))
+    (sym c.in-Cocircuits.is)
+    (list_step Cocircuits c.args.setting c.args.elements c.in-Cocircuits.members w _ _ mapped read)
 
 pub returns-in-Covectors : goal.returns-in-Covectors
 returns-in-Covectors c =
-    subst (λ b. IsStepUnlessMemory c.map-in-Covectors.result
-    (body_with_line c.args.setting c.args.elements b (runs c.args.line.now))) (sym c.in-Covectors.is)
-    (list_step Covectors c.args.setting c.args.elements c.in-Covectors.members (runs c.args.line.now) _ _ c.map-in-Covectors.ensures.cases
-    c.with_list_line-in-Covectors.ensures)
+    let w = runs c.args.line.now in
+    let mapped = c.map-in-Covectors.ensures.cases in
+    let read = c.with_list_line-in-Covectors.ensures in
+    subst (λ b. IsStepUnlessMemory c.map-in-Covectors.result (body_with_line c.args.setting c.args.elements b w))
+    (sym c.in-Covectors.is)
+    (list_step Covectors c.args.setting c.args.elements c.in-Covectors.members w _ _ mapped read)
 
 pub returns-in-Wiring : goal.returns-in-Wiring
 returns-in-Wiring c =
