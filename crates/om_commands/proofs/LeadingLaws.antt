@@ -1,7 +1,8 @@
 -- The elements with signs of a lexicographic extension.
 --
 -- Main results: none above n, they are a list for n elements (listed_within); the first listed element above n
--- (element_found, none_found); why there is no extension (refused_values).
+-- (element_found, none_found); why there is no extension (refused_values,
+-- memory_is_cause).
 use Rattle.std.specs.Prelude.{ℕ, ◌≡◌, ◌<◌, ◌≤◌, ◌+◌, ◌↔◌, not, List, [], ◌∷◌, length, Some, None, refl}
 use Rattle.std.proofs.Common.{get_or, zero, suc, arith, subst, sym, inl, inr}
 use Rattle.std.proofs.lemmas.Bool.{cases_lt, lt-ltb, le-ltb}
@@ -12,7 +13,7 @@ use Rattle.om_chirotope.specs.Map.{SignMap}
 use Rattle.om_lexext.specs.declared.lex_error.LexError.{LexError}
 use Rattle.om_lexext.specs.declared.lex_error.LexError.TheVariants as why_of
 use Rattle.om_lexext.specs.declared.signed.Signed.{Signed}
-use Rattle.om_lexext.specs.Lexicographic.{AreEntries, IsLexicographicList, IsOverValues, NamesNumber}
+use Rattle.om_lexext.specs.Lexicographic.{AreEntries, IsLexicographicList, IsFull, IsOverValues, NamesNumber}
 use Rattle.om_printing.specs.declared.line.Line.TheVariants as line
 use Rattle.om_reply.specs.Answers.{says}
 use Rattle.om_reply.specs.Above.{first_above}
@@ -86,6 +87,15 @@ refused_values list m count (why_of.Values k) is values number =
     let over = values.0 tt in
     subst (λ j. IsExtensionOfMap list m (says (line.LimitValues j))) same (extension.limited over.1)
 refused_values list m count why_of.Memory is values number = cc
+
+-- there is no extension for want of memory, if there is room and there aren't too many values: for `memory_alone`
+pub memory_is_cause : (elements : ℕ) (why : LexError) → IsFull why ↔ (elements ≡ MAX_ELEMENTS) → elements < MAX_ELEMENTS
+    → ((count : ℕ) → why ≡ why_of.Values count → ⊥) → why ≡ why_of.Memory
+memory_is_cause elements (why_of.Full n) full few other =
+    let at_limit = full.0 tt in
+    absurd (omega (arith, at_limit, few))
+memory_is_cause elements (why_of.Values count) full few other = absurd (other count refl)
+memory_is_cause elements why_of.Memory full few other = refl
 
 -- a number that is at most MAX_ELEMENTS and isn't equal to it is below it
 pub fewer_elements : (n : ℕ) → n ≤ MAX_ELEMENTS → (n ≡ MAX_ELEMENTS → ⊥) → n < MAX_ELEMENTS

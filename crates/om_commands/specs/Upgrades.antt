@@ -3,9 +3,9 @@
 use Rattle.std.specs.Prelude.{◌≡◌}
 use Rattle.om_document.specs.declared.document.Document.{Document}
 use Rattle.om_reply.specs.declared.answer.Answer.{Answer}
-use Rattle.om_reply.specs.Answers.{upgrades}
+use Rattle.om_reply.specs.Answers.{shows_two}
 use Rattle.om_commands.specs.Checked.{IsChecked}
 
 -- the upgrade of a document
 abbrev pub IsUpgrade : Document → Answer → Type 0
-IsUpgrade d answer = IsChecked d (λ kept. kept ≡ upgrades d) answer
+IsUpgrade d answer = IsChecked d (λ kept. kept ≡ shows_two d) answer

@@ -1,21 +1,42 @@
 //! A document, held against the axioms of its kind and kept whole.
 
-ghost use Rattle.std.specs.Prelude.{◌≤◌};
+ghost use Rattle.std.specs.Prelude.{◌≡◌, ◌≢◌, ◌≤◌};
 ghost use Rattle.om_signs.specs.declared.limits.TheConstants.{MAX_ELEMENTS};
 ghost use Rattle.om_document.specs.Form.{IsInForm, AreBlocks};
 ghost use Rattle.om_commands.specs.Given.{IsGiven};
-ghost use Rattle.om_commands.specs.Keeping.{IsKept};
+ghost use Rattle.om_commands.specs.Keeping.{IsKept, unkept};
 
 use om_document::{Body, Document, Name};
 use om_representation::{
-    Unrepresented, chirotope_of_points, document_of, represent, wiring_of_blocks,
+    DocumentRefused, Unrepresented, chirotope_of_points, document_of, represent, wiring_of_blocks,
 };
 use om_signs::{Block, List};
 use std::alloc::Global;
 use std::thread::Threads;
 
-/// The document itself, with its names, if it satisfies the axioms of its kind. A flat wiring does, so
-/// [`Unrepresented::Flat`] never comes.
+/// Why a document isn't kept.
+#[derive(Clone, Copy)]
+pub enum Unkept {
+    /// It fails the axioms of its kind, and this is the first violated instance.
+    Refused(DocumentRefused),
+    /// Memory ran out.
+    Memory,
+}
+
+impl Unkept {
+    /// Why a document isn't kept that gives no oriented matroid. A flat wiring is kept.
+    fn of(why: Unrepresented) -> Unkept
+        requires { why ≢ Unrepresented.Flat }
+        ensures { result ≡ unkept why }
+    {
+        match why {
+            Unrepresented::Refused(why) => Unkept::Refused(why),
+            _ => Unkept::Memory,
+        }
+    }
+}
+
+/// The document itself, with its names, if it satisfies the axioms of its kind. A flat wiring does.
 ///
 /// No part of it is copied. A map or a list is taken back out of its oriented matroid, and blocks and points are
 /// only inspected.
@@ -23,7 +44,7 @@ pub fn keep<R: Threads + Sync>(
     rt: &R,
     alloc: Global,
     document: Document,
-) -> Result<Document, Unrepresented>
+) -> Result<Document, Unkept>
     requires { IsInForm document }
     ensures { IsKept document result }
 {
@@ -46,7 +67,7 @@ fn keep_given<R: Threads + Sync>(
     elements: u8,
     body: Body,
     names: List<Name>,
-) -> Result<Document, Unrepresented>
+) -> Result<Document, Unkept>
     requires form { IsInForm (record { elements = elements; body = body; names = names }) }
     requires given { IsGiven body }
     ensures { IsKept (record { elements = elements; body = body; names = names }) result }
@@ -65,16 +86,12 @@ fn keep_given<R: Threads + Sync>(
                 names,
             })
         }
-        Err(why) => Err(why),
+        Err(why) => Err(Unkept::of(why)),
     }
 }
 
 /// The document of a wiring with these names, if its blocks satisfy the axioms. The wiring may be flat.
-fn keep_wiring(
-    elements: u8,
-    blocks: List<Block>,
-    names: List<Name>,
-) -> Result<Document, Unrepresented>
+fn keep_wiring(elements: u8, blocks: List<Block>, names: List<Name>) -> Result<Document, Unkept>
     requires low { 1 ≤ elements }
     requires high { elements ≤ MAX_ELEMENTS }
     requires blocks { AreBlocks blocks }
@@ -86,7 +103,7 @@ fn keep_wiring(
             body: Body::Wiring(wiring.into_blocks()),
             names,
         }),
-        Err(why) => Err(Unrepresented::Refused(why)),
+        Err(why) => Err(Unkept::Refused(why)),
     }
 }
 
@@ -96,7 +113,7 @@ fn keep_points(
     elements: u8,
     points: List<[i64; 3]>,
     names: List<Name>,
-) -> Result<Document, Unrepresented>
+) -> Result<Document, Unkept>
     requires form { IsInForm (record { elements = elements; body = Body.Points points; names = names }) }
     ensures { IsKept (record { elements = elements; body = Body.Points points; names = names }) result }
 {
@@ -106,6 +123,6 @@ fn keep_points(
             body: Body::Points(points),
             names,
         }),
-        Err(why) => Err(why),
+        Err(why) => Err(Unkept::of(why)),
     }
 }

@@ -66,10 +66,11 @@ fn extend_by(alloc: Global, chirotope: &Chirotope, list: &[Signed]) -> Result<An
 {
     match lexical(alloc, chirotope, list) {
         Ok(extension) => Ok(Answer::Document(map_document(alloc, extension))),
-        // the chirotope has fewer elements than the limit
-        Err(LexError::Full { .. }) => unreachable!(),
-        Err(LexError::Values { count }) => Ok(Answer::Line(Line::LimitValues { values: count })),
-        Err(LexError::Memory) => Err(NoMemory),
+        Err(error) => match error {
+            LexError::Values { count } => Ok(Answer::Line(Line::LimitValues { values: count })),
+            // the chirotope has fewer elements than the limit
+            _ => Err(error.memory_alone()),
+        },
     }
 }
 

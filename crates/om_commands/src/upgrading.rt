@@ -4,10 +4,10 @@ ghost use Rattle.std.specs.Prelude.{IfOk};
 ghost use Rattle.om_document.specs.Form.{IsInForm};
 ghost use Rattle.om_commands.specs.Upgrades.{IsUpgrade};
 
-use super::keeping::keep;
+use super::keeping::{Unkept, keep};
 use om_document::Document;
 use om_reply::Answer;
-use om_representation::{Unrepresented, refused_line};
+use om_representation::refused_line;
 use om_signs::NoMemory;
 use std::alloc::Global;
 use std::thread::Threads;
@@ -24,9 +24,7 @@ pub fn upgrade<R: Threads + Sync>(
 {
     match keep(rt, alloc, document) {
         Ok(document) => Ok(Answer::Upgraded(document)),
-        Err(Unrepresented::Refused(why)) => Ok(Answer::Line(refused_line(why))),
-        // a flat wiring is kept
-        Err(Unrepresented::Flat) => unreachable!(),
-        Err(Unrepresented::Memory) => Err(NoMemory),
+        Err(Unkept::Refused(why)) => Ok(Answer::Line(refused_line(why))),
+        Err(Unkept::Memory) => Err(NoMemory),
     }
 }

@@ -1,20 +1,16 @@
 -- What was answered in one call and what in the next make up what was answered in both.
 --
 -- Main results: nothing_yet, goes_further, stops_later, breaks_later.
-use Rattle.std.specs.Prelude.{ℕ, ◌≡◌, ◌++◌, List, [], ◌∷◌, Option, Some, None, max}
+use Rattle.std.specs.Prelude.{ℕ, ◌≡◌, ◌++◌, List, [], ◌∷◌, Option, max}
 use Rattle.std.proofs.Common.{refl, sym, ap, ◌∙◌, append_assoc, append-nil, arith}
 use Rattle.std.proofs.lemmas.List.Concat.{flat_map-append}
-use Rattle.std.specs.Io.KnownBytes.{Appends}
 use Rattle.om_port.proofs.Known.{Appends-then}
+use Rattle.om_port.proofs.Taking.{appended_none}
 use Rattle.om_reply.specs.declared.answer.Answer.{Answer}
 use Rattle.om_reply.specs.declared.status.Status.{Status}
 use Rattle.om_reply.specs.Answers.{text_of}
 use Rattle.om_program.specs.Answered.{AreMeant, none, one_more, texts, AreAnswered, GoesOn, Stops, Breaks}
 use Rattle.om_program.specs.Statuses.{greatest}
-
-pub appended_none : (o : Option (List ℕ)) → Appends o o []
-appended_none None = tt
-appended_none (Some o) = sym (append-nil o)
 
 pub both_meant : (M : List ℕ → Answer → Type 0) (ps qs : List (List ℕ)) (xs ys : List Answer) → AreMeant M ps xs
     → AreMeant M qs ys → AreMeant M (ps ++ qs) (xs ++ ys)

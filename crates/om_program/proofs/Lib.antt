@@ -3,11 +3,12 @@ mod FaultLaws
 mod MeaningLaws
 mod OneAnswer
 mod OneUsage
+mod OnlyTask
 pub mod PlanLaws
 pub mod ReplyLaws
 mod ValidClaimLaws
 pub mod Chaining
-pub mod Endings
+mod Courses
 pub mod Readings
 pub mod Runs
 pub mod Shortened

@@ -2,7 +2,8 @@
 --
 -- Main results: the meaning of what was read (meant_of_long); how much was taken of the source (taken_whole,
 -- taken_long); the answer and the cut-off answer, from what was read and written (whole, cut_off); from those of a task
--- to those of the words that name it (named_answer, named_cut_off); words that aren't a command (usage_meant).
+-- to those of the words that name it (named_answer, named_cut_off); words that aren't a command (usage_answer,
+-- usage_cut_off).
 use Rattle.std.specs.Prelude.{ℕ, ◌≡◌, ◌<◌, ◌≤◌, ◌+◌, List, length, min, Option, Some, None, IfSome}
 use Rattle.std.proofs.Common.{◌∙◌, ap, arith}
 use Rattle.std.specs.Io.KnownBytes.{Appends, Consumes, IsAtEnd}
@@ -69,7 +70,18 @@ pub named_cut_off : (words : List (List ℕ)) (task : Task) (left old new : Opti
 named_cut_off words task None old new n c = tt
 named_cut_off words task (Some bytes) old new n (answer, (m, f)) = (answer, (named task _ n m, f))
 
-pub usage_meant : (words : List (List ℕ)) (k : ℕ) (left : Option (List ℕ)) → IsUsage words k
+usage_meant : (words : List (List ℕ)) (k : ℕ) (left : Option (List ℕ)) → IsUsage words k
     → IsMeantBy (Means words) left (says (line.Usage k))
 usage_meant words k None u = tt
 usage_meant words k (Some bytes) u = usage k u
+
+pub usage_answer : {words : List (List ℕ)} {k : ℕ} {result : Status} (left old new : Option (List ℕ)) → IsUsage words k
+    → (result ≡ status_of (says (line.Usage k))) × Appends old new (text_of (says (line.Usage k)))
+    → IsAnswer words left result old new
+usage_answer {words = words} {k = k} {result = result} left old new u w =
+    whole (Means words) left old new result _ (usage_meant words k left u) w
+
+pub usage_cut_off : {words : List (List ℕ)} {k : ℕ} (left old new : Option (List ℕ)) → IsUsage words k
+    → IsFront old new (text_of (says (line.Usage k))) → IsCutOffAnswer words left old new
+usage_cut_off {words = words} {k = k} left old new u f =
+    cut_off (Means words) left old new _ (usage_meant words k left u) f

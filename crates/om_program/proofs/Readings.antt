@@ -1,38 +1,18 @@
 -- How far a run over many pieces has come after a reading.
 --
 -- Main definitions: Reaches, KeepsUp
--- Main results: taken_to_end, all_taken, taken_more, reach_start, starts, reach_further, reach_stops,
--- reach_stops_later, reach_breaks_later, reach_end, reach_end_stops, reach_end_breaks, keeps_up_start,
--- keeps_up_further, keeps_up_at_fault, taken_still, no_first, none_taken
-use Rattle.std.specs.Prelude.{ℕ, ◌≡◌, ◌⊎◌, ◌++◌, List, [], Option, Some, None, IfSome, take}
-use Rattle.std.proofs.Common.{refl, sym, ap, ◌∙◌, subst, append-nil, append_assoc, inl, inr}
+-- Main results: reach_start, starts, reach_further, reach_stops, reach_stops_later, reach_breaks_later, reach_end,
+-- reach_end_stops, reach_end_breaks, keeps_up_start, keeps_up_further, keeps_up_at_fault, no_first
+use Rattle.std.specs.Prelude.{ℕ, ◌≡◌, ◌⊎◌, ◌++◌, List, [], Option, Some, None, IfSome}
+use Rattle.std.proofs.Common.{refl, sym, ◌∙◌, subst, append-nil, append_assoc, inl, inr}
 use Rattle.std.specs.Io.KnownBytes.{Consumes, IsAtEnd, Keeps}
-use Rattle.om_port.specs.Causes.{TakesSome}
 use Rattle.om_port.proofs.Known.{Consumes-then, taken_kept}
 use Rattle.om_reply.specs.declared.answer.Answer.{Answer}
 use Rattle.om_reply.specs.declared.status.Status.{Status}
 use Rattle.om_pieces.specs.Making.{Making, completed, made, nothing}
 use Rattle.om_program.specs.Answered.{AreAnswered, IsUpToDate, GoesOn, Stops, Breaks}
-use Rattle.om_program.specs.Each.{TakesAll}
 use Rattle.om_program.proofs.Chaining.{goes_on, goes_further, all_answered, stops_later, breaks_later, stops_here}
 use Rattle.om_program.proofs.Chaining.{nothing_yet}
-
--- ---- reading
-
--- bytes up to the end are all
-pub taken_to_end : (old new : Option (List ℕ)) (bytes : List ℕ) → Consumes old new bytes → IsAtEnd new
-    → TakesAll old new
-taken_to_end None new bytes c e = tt
-taken_to_end (Some old) None bytes c e = absurd c
-taken_to_end (Some old) (Some new) bytes c e = rw e (sym (append-nil old))
-
-pub all_taken : (old now new : Option (List ℕ)) → TakesSome old now → Consumes now new [] → IsAtEnd new
-    → TakesAll old new
-all_taken old now new (bs, t) c e = taken_to_end old new (bs ++ []) (Consumes-then old now new bs [] t c) e
-
-pub taken_more : (old now new : Option (List ℕ)) (bytes : List ℕ) → TakesSome old now → Consumes now new bytes
-    → TakesSome old new
-taken_more old now new bytes (bs, t) c = (bs ++ bytes, Consumes-then old now new bs bytes t c)
 
 -- how far the pieces that are made with all bytes were answered, where the source tells the bytes that it had left
 abbrev pub Reaches : (List ℕ → Answer → Type 0) → Making → Option (List ℕ) → Making → Option (List ℕ) → Status → Status
@@ -175,18 +155,6 @@ keeps_up_at_fault M n now (Some all) left rest s t o p (bs, (c, f)) k =
     (subst (λ l. GoesOn M (completed (nothing n) l) [] s t o p) (append-nil bs) (f [])) in
     (bs, (taken_kept (Some all) left rest bs c k, (a.0, (a.1.0, a.1.1.0))))
 
--- ---- a last reading
-
-pub taken_still : (old now new : Option (List ℕ)) → TakesSome old now → Keeps now new → TakesSome old new
-taken_still None now new (bs, t) k = ([], tt)
-taken_still (Some old) None new (bs, t) k = absurd t
-taken_still (Some old) (Some now) None (bs, t) k = absurd k
-taken_still (Some old) (Some now) (Some new) (bs, t) k = (bs, t ∙ ap (λ l. bs ++ l) (sym k))
-
 pub no_first : (A B : Type 0) → A ⊎ B → (A → ⊥) → B
 no_first A B (inl a) n = absurd (n a)
 no_first A B (inr b) n = b
-
-pub none_taken : (k : ℕ) (buf : List ℕ) (old new : Option (List ℕ)) → k ≡ 0 → Consumes old new (take k buf)
-    → Consumes old new []
-none_taken k buf old new e c = subst (λ j. Consumes old new (take j buf)) e c

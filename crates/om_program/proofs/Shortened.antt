@@ -4,7 +4,7 @@
 --
 -- Main results: each_answered, first_written, next_cut_off.
 use Rattle.std.specs.Prelude.{ℕ, ◌≡◌, ◌≢◌, ◌<◌, ◌≤◌, List, [], ◌∷◌, ◌++◌, map, take, length, Option}
-use Rattle.std.proofs.Common.{refl, sym, ap, ◌∙◌, subst, arith, inl, inr}
+use Rattle.std.proofs.Common.{sym, ◌∙◌, subst, arith, inl, inr}
 use Rattle.std.proofs.lemmas.List.{length-take, take_all}
 use Rattle.std.proofs.lemmas.Bool.{cases_lt}
 use Rattle.om_signs.specs.declared.limits.TheConstants.{MAX_INPUT}
@@ -26,6 +26,7 @@ use Rattle.om_program.specs.Each.{IsEachAnswered, AreFirstWritten, IsNextCutOff}
 use Rattle.om_pieces.specs.Making.{most, made, nothing}
 use Rattle.om_pieces.specs.Pieces.{IsCut}
 use Rattle.om_pieces.proofs.Feeding.{cut_pieces, has_one_cut}
+use Rattle.om_pieces.proofs.Steps.{parted}
 
 -- ---- one piece
 
@@ -75,40 +76,6 @@ pieces_meant words task fronts (q ∷ qs) answers n r e (one_more p ps x xs m ms
 
     tails : (a b : List ℕ) (xs ys : List (List ℕ)) → ◌≡◌ {A = List (List ℕ)} (a ∷ xs) (b ∷ ys) → xs ≡ ys
     tails a b xs ys e = cc
-
--- what is in front of the first bytes of pieces are the first bytes of the first ones
-pub record IsParted (pieces qs left : List (List ℕ)) : Type 0 where
-  pub first : List (List ℕ)
-  pub last : List (List ℕ)
-  pub whole : pieces ≡ first ++ last
-  pub front : qs ≡ map (take most) first
-  pub behind : left ≡ map (take most) last
-
-parted : (pieces qs left : List (List ℕ)) → map (take most) pieces ≡ qs ++ left → IsParted pieces qs left
-parted pieces [] left e = record { first = []; last = pieces; whole = refl; front = refl; behind = sym e }
-parted [] (q ∷ qs) left e = absurd (no _ _ e)
-  where
-    no : (x : List ℕ) (xs : List (List ℕ)) → ◌≡◌ {A = List (List ℕ)} [] (x ∷ xs) → ⊥
-    no x xs e = cc
-parted (p ∷ ps) (q ∷ qs) left e =
-    let i = parted ps qs left (tails _ _ _ _ e) in
-    record {
-      first = p ∷ i.first;
-      last = i.last;
-      whole = ap (λ l. p ∷ l) i.whole;
-      front = both _ _ _ _
-          (sym (heads _ _ _ _ e)) i.front;
-      behind = i.behind;
-    }
-  where
-    heads : (a b : List ℕ) (xs ys : List (List ℕ)) → ◌≡◌ {A = List (List ℕ)} (a ∷ xs) (b ∷ ys) → a ≡ b
-    heads a b xs ys e = cc
-
-    tails : (a b : List ℕ) (xs ys : List (List ℕ)) → ◌≡◌ {A = List (List ℕ)} (a ∷ xs) (b ∷ ys) → xs ≡ ys
-    tails a b xs ys e = cc
-
-    both : (a b : List ℕ) (xs ys : List (List ℕ)) → a ≡ b → xs ≡ ys → ◌≡◌ {A = List (List ℕ)} (a ∷ xs) (b ∷ ys)
-    both a b xs ys e f = cc
 
 -- ---- runs
 

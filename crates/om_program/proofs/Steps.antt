@@ -1,11 +1,11 @@
 -- The steps of a run over many pieces: one piece, one byte, the bytes of a reading, and the end of the input.
 --
--- Main results: answered_replied, replied_answered, only_own, next_answers, no_piece, next_breaks, byte_goes,
--- byte_breaks, byte_completes, loop_goes, loop_stops, loop_breaks, loop_ends, end_answers, end_breaks_later,
+-- Main results: replied_not, answered_replied, replied_answered, only_own, next_answers, no_piece, next_breaks,
+-- byte_goes, byte_breaks, byte_completes, loop_goes, loop_stops, loop_breaks, loop_ends, end_answers, end_breaks_later,
 -- end_breaks, end_stops
-use Rattle.std.specs.Prelude.{ℕ, suc, ◌≡◌, ◌≢◌, ◌⊎◌, ◌+◌, ◌<◌, ◌≤◌, ◌++◌, List, [], ◌∷◌, Option, max, drop, length}
+use Rattle.std.specs.Prelude.{ℕ, ◌≡◌, ◌≢◌, ◌⊎◌, ◌+◌, ◌<◌, ◌≤◌, ◌++◌, List, [], ◌∷◌, Option, max, drop, length}
 use Rattle.std.specs.Prelude.{get_or}
-use Rattle.std.proofs.Common.{refl, sym, ap, ◌∙◌, subst, append-nil, arith, inl, inr, drop-cons}
+use Rattle.std.proofs.Common.{refl, sym, ap, ◌∙◌, subst, append-nil, arith, inl, inr}
 use Rattle.std.specs.Io.KnownBytes.{Appends}
 use Rattle.std.proofs.lemmas.List.{drop_all}
 use Rattle.om_reply.specs.declared.answer.Answer.{Answer}
@@ -16,11 +16,17 @@ use Rattle.om_reply.specs.Answers.{status_of, text_of}
 use Rattle.om_reply.specs.Written.{IsFront}
 use Rattle.om_reply.specs.Statuses.{code_of, IsAnswered, IsReplied}
 use Rattle.om_pieces.specs.Making.{Making, completed, fed, last_ended, rest_of, option_list, made}
+use Rattle.om_pieces.proofs.Steps.{bytes_at, made_byte, made_end}
+use Rattle.om_port.proofs.Taking.{appended_none}
 use Rattle.om_program.specs.Answered.{none, one_more, AreAnswered, GoesOn, Stops, Breaks}
-use Rattle.om_program.proofs.Chaining.{appended_none, goes_on, goes_further, all_answered, stops_later, breaks_later}
+use Rattle.om_program.proofs.Chaining.{goes_on, goes_further, all_answered, stops_later, breaks_later}
 use Rattle.om_program.proofs.Chaining.{breaks_among, stops_here}
 
 -- ---- statuses
+
+-- a status with which the whole answer was written isn't one of the others
+pub replied_not : (s x : Status) → IsReplied s → (IsReplied x → ⊥) → s ≢ x
+replied_not s x replied other e = other (subst IsReplied e replied)
 
 answered_small : (s : Status) → IsAnswered s → code_of s ≤ 3
 answered_small Done a = omega arith
@@ -99,10 +105,6 @@ next_breaks M piece o n (answer, (m, (k, (short, w)))) =
 
 -- ---- one byte
 
-made_byte : (m now : Making) (piece : Option (List ℕ)) (b : ℕ) (rest : List ℕ)
-    → ◌≡◌ {A = Making × Option (List ℕ)} (now, piece) (fed m b) → made m (b ∷ rest) ≡ option_list piece ++ made now rest
-made_byte m now piece b rest e = sym (ap (λ (k : Making × Option (List ℕ)). option_list (k.1) ++ made (k.0) rest) e)
-
 pub byte_goes : (M : List ℕ → Answer → Type 0) (m now : Making) (piece : Option (List ℕ)) (b : ℕ) (rest : List ℕ)
     (s t : Status) (o n : Option (List ℕ)) → ◌≡◌ {A = Making × Option (List ℕ)} (now, piece) (fed m b)
     → AreAnswered M (option_list piece) s t o n → GoesOn M (made m (b ∷ rest)) (made now rest) s t o n
@@ -131,13 +133,6 @@ byte_completes M m now piece b rest s t o n e a =
     (goes_on M (option_list piece) (completed now rest) s t o n a)
 
 -- ---- the bytes of a reading
-
--- the byte at a place in front of the bytes behind it
-bytes_at : (bytes rest : List ℕ) (i : ℕ) → i < length bytes → drop i bytes ++ rest ≡ get_or bytes i 0 ∷
-    (drop (i + 1) bytes ++ rest)
-bytes_at bytes rest i h =
-    ap (λ l. l ++ rest) (drop-cons bytes i 0 h ∙ ap (λ k. get_or bytes i 0 ∷ drop k bytes)
-    (let e : suc i ≡ i + 1 = omega arith in e))
 
 -- for pieces that are made, and for those that are completed
 pub loop_goes : (M : List ℕ → Answer → Type 0) (pieces : Making → List ℕ → List (List ℕ)) (first now next : Making)
@@ -179,12 +174,6 @@ loop_ends M pieces first now bytes rest i s t o p h a =
     (ap (λ l. l ++ rest) (drop_all i bytes h)) a
 
 -- ---- the end of the input
-
-made_end : (m now : Making) (piece left : Option (List ℕ)) → ◌≡◌ {A = Making × Option (List ℕ)} (now, piece)
-    (last_ended m) → left ≡ rest_of now → made m [] ≡ option_list piece ++ option_list left
-made_end m now piece left e f =
-    sym (ap (λ (k : Making × Option (List ℕ)). option_list (k.1) ++ option_list (rest_of (k.0))) e)
-    ∙ ap (λ l. option_list piece ++ option_list l) (sym f)
 
 pub end_answers : (M : List ℕ → Answer → Type 0) (m now : Making) (piece left : Option (List ℕ)) (s t u : Status)
     (o p q : Option (List ℕ)) → ◌≡◌ {A = Making × Option (List ℕ)} (now, piece) (last_ended m) → left ≡ rest_of now

@@ -1,15 +1,14 @@
 //! A whole run: each piece of the source is answered.
 
-ghost use Rattle.std.specs.Prelude.{◌≡◌, ◌≢◌, ◌⊎◌, ◌≤◌, ◌-◌, ◌^◌, ℕ, List, IfSome, map, string_bytes};
-ghost use Rattle.om_port.specs.Causes.{Rose, TakesAtLeast, TakesSome};
+ghost use Rattle.std.specs.Prelude.{◌≡◌, ◌≢◌, ◌⊎◌, ◌≤◌, ℕ, List, IfSome, map, string_bytes};
+ghost use Rattle.om_port.specs.Causes.{Rose, TakesSome};
 ghost use Rattle.om_words.specs.Tasks.{HasLawfulArguments, reads};
 ghost use Rattle.om_words.specs.ReadingCommands.{AreReadingCommand, wanted_ends};
 ghost use Rattle.om_program.specs.Meaning.{Means, TaskMeans};
 ghost use Rattle.om_reply.specs.Statuses.{IsAnswered};
-ghost use Rattle.om_pieces.specs.Making.{made, nothing};
 ghost use Rattle.om_pieces.specs.Pieces.{HasOneCut};
-ghost use Rattle.om_program.specs.Answered.{AreAnswered, IsUpToDate, Stops, Breaks};
-ghost use Rattle.om_program.specs.Each.{AreForPieces, TakesAll, ended};
+ghost use Rattle.om_program.specs.Answered.{IsUpToDate};
+ghost use Rattle.om_program.specs.Each.{AreForPieces, IsCourse, TakesAll};
 ghost use Rattle.om_program.specs.Each.{IsEachAnswered, AreFirstWritten, IsNextCutOff};
 ghost use Rattle.om_program.specs.Each.{IsUsageWritten, IsUsageCutOff};
 
@@ -117,29 +116,9 @@ fn answer_source<R: Threads + Sync, S: Source, K: Sink>(
     requires reading { reads task.now ≢ Reads.Nothing }
     requires source_ready { S.ready source.old }
     requires sink_ready { K.ready sink.old }
-    ensures answer { IsAnswered (ended result) → IfSome (S.left source.old) (λ bytes.
-        AreAnswered (TaskMeans task.now) (made (nothing (wanted_ends (reads task.now))) bytes)
-        Status.Done (ended result) (K.taken sink.old) (K.taken sink.new)) }
-    ensures fault { (ended result ≡ Status.ReadFault) ⊎ (ended result ≡ Status.NoMemory)
-        → IfSome (S.left source.old) (λ bytes.
-        Stops (TaskMeans task.now) (made (nothing (wanted_ends (reads task.now))) bytes)
-        (K.taken sink.old) (K.taken sink.new)) }
-    ensures cut { ended result ≡ Status.WriteFault → IfSome (S.left source.old) (λ bytes.
-        Breaks (TaskMeans task.now) (made (nothing (wanted_ends (reads task.now))) bytes)
-        (K.taken sink.old) (K.taken sink.new)) }
-    ensures no_usage { ended result ≢ Status.Usage }
-    ensures read { ended result ≡ Status.ReadFault → Rose (S.faults source.old) (S.faults source.new) }
-    ensures write { ended result ≡ Status.WriteFault → Rose (K.faults sink.old) (K.faults sink.new) }
-    ensures taken { IsAnswered (ended result) → TakesAll (S.left source.old) (S.left source.new) }
-    ensures prefix { TakesSome (S.left source.old) (S.left source.new) }
-    ensures source_later { S.faults source.old ≤ S.faults source.new }
-    ensures sink_later { K.faults sink.old ≤ K.faults sink.new }
-    ensures still { ended result ≢ Status.ReadFault
-        → S.ready source.new ⊎ TakesAll (S.left source.old) (S.left source.new) }
-    ensures prompt { ended result ≡ Status.ReadFault
-        → IsUpToDate (TaskMeans task.now) (wanted_ends (reads task.now)) (S.left source.old) (S.left source.new)
-        (K.taken sink.old) (K.taken sink.new) }
-    ensures readings { result ≡ None → TakesAtLeast (2 ^ 64 - 1) (S.left source.old) (S.left source.new) }
+    ensures { IsCourse (TaskMeans task.now) (wanted_ends (reads task.now)) result
+        (S.left source.old) (S.left source.new) (S.ready source.new) (S.faults source.old) (S.faults source.new)
+        (K.taken sink.old) (K.taken sink.new) (K.faults sink.old) (K.faults sink.new) }
 {
     let mut cutter = Cutter::new(alloc, wanted_ends(task));
     let mut status = Status::Done;

@@ -1,6 +1,6 @@
 //! A whole run: from the words and the source to the bytes that the sink takes.
 
-ghost use Rattle.std.specs.Prelude.{ℕ, ◌≡◌, ◌≢◌, ◌⊎◌, ◌≤◌, IfOk, OnOk, List};
+ghost use Rattle.std.specs.Prelude.{ℕ, ◌≡◌, ◌≢◌, ◌⊎◌, ◌↔◌, ◌≤◌, IfOk, OnOk, List};
 ghost use Rattle.om_port.specs.Causes.{Rose, TakesSome};
 ghost use Rattle.om_words.specs.Words.{AreCommand, Names};
 ghost use Rattle.om_reply.specs.Answers.{IsReply};
@@ -157,8 +157,7 @@ fn carry_out<R: Threads + Sync, S: Source, K: Sink>(
 {
     match find_answer(rt, alloc, task, source) {
         Ok(answer) => write_and_drop(alloc, answer, sink),
-        Err(Unanswered::ReadFault) => Status::ReadFault,
-        Err(Unanswered::NoMemory) => Status::NoMemory,
+        Err(unanswered) => unanswered.status(),
     }
 }
 
@@ -167,6 +166,19 @@ fn carry_out<R: Threads + Sync, S: Source, K: Sink>(
 enum Unanswered {
     ReadFault,
     NoMemory,
+}
+
+impl Unanswered {
+    /// How a run ends without an answer.
+    fn status(self) -> Status
+        ensures one { (result ≡ Status.ReadFault) ⊎ (result ≡ Status.NoMemory) }
+        ensures fault { result ≡ Status.ReadFault ↔ self ≡ Unanswered.ReadFault }
+    {
+        match self {
+            Unanswered::ReadFault => Status::ReadFault,
+            Unanswered::NoMemory => Status::NoMemory,
+        }
+    }
 }
 
 impl From<NoMemory> for Unanswered {

@@ -11,7 +11,7 @@ const PLUS: &str = "om 1\nchirotope 3 4\n++++\nend\n";
 const LOOP: &str = "om 1\nchirotope 2 4\n0+0+00\nend\n";
 
 /// Runs of each command, and some that are refused.
-const RUNS: [Row; 26] = [
+pub const RUNS: [Row; 26] = [
     ("accept", PLUS, 0, "accepted\n"),
     (
         "accept",

@@ -157,7 +157,7 @@ const STREAMS: [Row; 9] = [
     ("make 7", "om 1\nchirotope 0 1\n+\nend\n", 2, "usage 1\n"),
     ("accept x", "om 1\nchirotope 0 1\n+\nend\n", 2, "usage 2\n"),
     (
-        "upgrade",
+        "accept",
         "end om\nom\nom 1\n",
         1,
         "refused line 1 version\nrefused line 1 version\nrefused line 2 missing\n",

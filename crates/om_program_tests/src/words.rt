@@ -1,11 +1,15 @@
 //! The words of commands: the tasks that they name, and the words at fault.
 
 use super::helpers::words_of;
+use super::runs::RUNS;
 use om_paint::Colour;
 use om_signs::{MAX_DRAWN, Sign};
 use om_text::Kind;
 use om_words::{Colouring, Leading, Reads, Task, Usage, command};
 use std::alloc::Global;
+
+/// The exit code of words that aren't a command.
+const USAGE: u8 = 2;
 
 /// Words that aren't a command, and the one at fault.
 const FAULTS: [(&str, u32); 20] = [
@@ -31,27 +35,20 @@ const FAULTS: [(&str, u32); 20] = [
     ("make 1 --count=2", 3),
 ];
 
-/// Words of commands, and what these read.
-const TASKS: [(&str, &str); 19] = [
-    ("accept", "a document"),
-    ("member +-0", "a document"),
-    ("convert circuits", "a document"),
-    ("dual", "a document"),
-    ("delete 20", "a document"),
-    ("contract 1", "a document"),
-    ("reorient 1 2 20", "a document"),
-    ("wiring", "a document"),
-    ("mutations", "a document"),
-    ("flip 1 2 3", "a document"),
-    ("extend", "a document"),
-    ("paint RGBW 4", "a document"),
-    ("hull", "a document"),
-    ("lexext +3 -1", "a document"),
-    ("threeterm", "a document"),
-    ("upgrade", "a document"),
-    ("decide", "a document"),
-    ("check", "a claim"),
-    ("make 7", "nothing"),
+/// Words of commands, with arguments at their limits or with the defaults. [`RUNS`] has words of each command.
+const COMMANDS: [&str; 12] = [
+    "member +-0",
+    "convert circuits",
+    "delete 20",
+    "contract 1",
+    "reorient 1 2 20",
+    "flip 1 2 3",
+    "extend",
+    "paint RGBW 4",
+    "lexext +3 -1",
+    "decide",
+    "check",
+    "make 7",
 ];
 
 /// The task that the words of a line name, or the word at fault, which is 0 if memory runs out.
@@ -82,10 +79,27 @@ fn words_at_fault(rt: HostRuntime) {
     }
 }
 
+/// What the command of a line reads.
+fn expected(line: &str) -> &'static str {
+    if line.starts_with("check") {
+        "a claim"
+    } else if line.starts_with("make") {
+        "nothing"
+    } else {
+        "a document"
+    }
+}
+
 #[test]
 fn what_tasks_read(rt: HostRuntime) {
-    for (line, what) in TASKS.iter() {
-        assert!(rt; read_by(rt.alloc(), line) == *what);
+    for line in COMMANDS.iter() {
+        assert!(rt; read_by(rt.alloc(), line) == expected(line), "{line}");
+    }
+    for (line, _, code, _) in RUNS.iter() {
+        assert!(rt;
+            *code == USAGE || read_by(rt.alloc(), line) == expected(line),
+            "{line}"
+        );
     }
 }
 

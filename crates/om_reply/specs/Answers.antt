@@ -1,15 +1,13 @@
--- Answers: the status with which a run ends that has written an answer whole, and the text of the answer.
+-- Answers: what they show, their texts, and which are answers to a command. AnswerStatuses has their statuses.
 use Rattle.std.specs.Prelude.{ℕ, ◌≤◌, List, length}
 use Rattle.om_chirotope.specs.Map.{SignMap}
 use Rattle.om_certificate.specs.declared.verdict.Verdict.{Verdict}
-use Rattle.om_certificate.specs.declared.verdict.Verdict.TheVariants as verdict
 use Rattle.om_certificate.specs.Forms.{IsVerdictInForm}
 use Rattle.om_document.specs.declared.document.Document.{Document}
 use Rattle.om_document.specs.Form.{IsInForm}
 use Rattle.om_document.specs.Print.{printed}
 use Rattle.om_document.specs.PrintTwo.{printed_two, IsClosedUnderNegation}
 use Rattle.om_printing.specs.declared.line.Line.{Line}
-use Rattle.om_printing.specs.declared.line.Line.TheVariants as line
 use Rattle.om_printing.specs.Texts.{line_text}
 use Rattle.om_localize.specs.declared.listing.Listing.{Listing}
 use Rattle.om_oriented.specs.declared.painted.Painted.{Painted}
@@ -17,9 +15,8 @@ use Rattle.om_subsets.specs.Members.{Chosen}
 use Rattle.om_reply.specs.VerdictText.{claim_of, claim_text}
 use Rattle.om_reply.specs.declared.answer.Answer.{Answer}
 use Rattle.om_reply.specs.declared.answer.Answer.TheVariants as answer
-use Rattle.om_reply.specs.declared.status.Status.{Status}
-use Rattle.om_reply.specs.declared.status.Status.TheVariants.{Done, Refused, Usage, Limit}
 use Rattle.om_reply.specs.Statuses.{IsReplied}
+pub use Rattle.om_reply.specs.AnswerStatuses.{status_of_line, status_of_verdict, status_of}
 use Rattle.om_reply.specs.ExtensionTexts.{extensions_text}
 use Rattle.om_reply.specs.HullTexts.{hull_text}
 use Rattle.om_reply.specs.MutationTexts.{mutations_text}
@@ -36,8 +33,8 @@ abbrev pub shows : Document → Answer
 shows d = answer.Document d
 
 -- an answer that is a document in version 2
-abbrev pub upgrades : Document → Answer
-upgrades d = answer.Upgraded d
+abbrev pub shows_two : Document → Answer
+shows_two d = answer.Upgraded d
 
 -- an answer that lists mutations
 abbrev pub lists : List Chosen → Answer
@@ -58,38 +55,6 @@ tells items = answer.Hull items
 -- an answer that consists of vectors and their summary
 abbrev pub makes : List WholeVector → Tally → Answer
 makes vs t = answer.Made vs t
-
--- the status of a run that has written this line; every line not named here is a refusal
-abbrev pub status_of_line : Line → Status
-status_of_line line.Accepted = Done
-status_of_line line.Covector = Done
-status_of_line line.NotCovector = Done
-status_of_line (line.Circuit x) = Done
-status_of_line (line.Cocircuit x) = Done
-status_of_line (line.Cyclic x) = Done
-status_of_line line.ValidRealizable = Done
-status_of_line line.ValidNonrealizable = Done
-status_of_line line.ValidUndecided = Done
-status_of_line (line.Usage k) = Usage
-status_of_line (line.LimitMembers k) = Limit
-status_of_line (line.LimitValues k) = Limit
-status_of_line _ = Refused
-
--- the status of a run that has written this verdict
-abbrev pub status_of_verdict : Verdict → Status
-status_of_verdict (verdict.Limit end unfound) = Limit
-status_of_verdict _ = Done
-
--- the status of a run that has written this answer
-abbrev pub status_of : Answer → Status
-status_of (answer.Line l) = status_of_line l
-status_of (answer.Document d) = Done
-status_of (answer.Upgraded d) = Done
-status_of (answer.Mutations sets) = Done
-status_of (answer.Extensions n l) = Done
-status_of (answer.Hull items) = Done
-status_of (answer.Claim c) = status_of_verdict c.verdict
-status_of (answer.Made vs t) = Done
 
 -- the bytes of an answer. A document is written in canonical form or in version 2, and a verdict is written after
 -- the document of its chirotope.

@@ -4,6 +4,7 @@ pub mod MutationTexts
 pub mod ExtensionTexts
 pub mod HullTexts
 pub mod MadeTexts
+pub mod AnswerStatuses
 pub mod Answers
 pub mod Determined
 pub mod Above

@@ -1,12 +1,13 @@
 -- What no words, and one word alone, behind the first one of a command are read as.
 --
--- Main results: no_value, none_read, some_read, alone_empty, alone_bad, alone_many, alone_read, none_some
+-- Main results: no_value, bare_read, bare_fault, alone_empty, alone_bad, alone_many, alone_read, none_some
 use Rattle.std.specs.Prelude.{ℕ, ◌≡◌, ◌<◌, length, map, List, [], ◌∷◌, refl, true, false, ◌==◌, suc, Ok, Err, Option}
 use Rattle.std.specs.Prelude.{Some, None}
 use Rattle.std.proofs.Common.{arith, ap, subst, sym, ◌∙◌}
 use Rattle.std.proofs.lemmas.Bool.{false≢true, ne_eqb}
 use Rattle.om_printing.specs.declared.usage.Usage.{Usage}
-use Rattle.om_words.specs.Words.{AreNone, IsAlone, at_word, at_end, IsRead}
+use Rattle.om_words.specs.declared.task.Task.{Task}
+use Rattle.om_words.specs.Words.{IsBare, IsAlone, at_word, at_end, IsRead}
 use Rattle.om_words.proofs.WordLaws.{first_of, tail_of}
 
 too_long : (word : List ℕ) (words : List (List ℕ)) → word ∷ words ≡ [] → ⊥
@@ -20,17 +21,21 @@ no_value u a same = cc
 
 -- ---- no word
 
-pub none_read : {X : Type 0} (f : X → List ℕ) (words : List X) → true ≡ (length words == 0)
-    → IsRead AreNone (map f words) (Ok tt)
-none_read f [] empty = record { value = λ a. (λ same. refl, λ none. refl); fault = tt }
-none_read f (word ∷ words) empty = absurd (more_than_none (length words) empty)
+pub bare_read : {X : Type 0} (f : X → List ℕ) (task : Task) (words : List X) → true ≡ (length words == 0)
+    → IsRead (IsBare task) (map f words) (Ok task)
+bare_read f task [] empty =
+    record { value = λ t. (λ same. let one : task ≡ t = cc in (refl, sym one), λ is. ap Ok (sym is.1)); fault = tt }
+bare_read f task (word ∷ words) empty = absurd (more_than_none (length words) empty)
 
-pub some_read : {X : Type 0} (f : X → List ℕ) (words : List X) → false ≡ (length words == 0)
-    → IsRead AreNone (map f words) (Err (record { word = 2 }))
-some_read f [] some = absurd (false≢true some)
-some_read f (word ∷ words) some = record {
-  value = λ a. (λ same. absurd (no_value _ a same), λ none. absurd (too_long (f word) (map f words) none));
-  fault = (1, (refl, at_word [] (f word) (map f words) ([], (tt, refl)) (λ b. too_long (f word) b.0 b.1.1)));
+pub bare_fault : {X : Type 0} (f : X → List ℕ) (task : Task) (words : List X) → false ≡ (length words == 0)
+    → IsRead (IsBare task) (map f words) (Err (record { word = 2 }))
+bare_fault f task [] some = absurd (false≢true some)
+bare_fault f task (word ∷ words) some = record {
+  value = λ t. (λ same. absurd (no_value _ t same), λ is. absurd (too_long (f word) (map f words) is.0));
+  fault = (
+    1,
+    (refl, at_word [] (f word) (map f words) ([], (task, (refl, refl))) (λ b. too_long (f word) b.0 b.1.1.0)),
+  );
 }
 
 -- ---- one word alone

@@ -1,19 +1,26 @@
 -- Words that are numbers of elements, and increasing lists with their last number.
 --
 -- Main definitions: AreIncreasing, GoesOn
--- Main results: same_number, one_element, this_element, this_above, last_of
-use Rattle.std.specs.Prelude.{ℕ, ◌≡◌, ◌<◌, ◌≤◌, ◌^◌, ◌↔◌, length, map, List, [], ◌∷◌, ◌++◌, refl, Some}
+-- Main results: same_number, one_element, element_number, element_read, this_above, last_of
+use Rattle.std.specs.Prelude.{ℕ, ◌≡◌, ◌<◌, ◌≤◌, ◌^◌, ◌↔◌, length, map, List, [], ◌∷◌, ◌++◌, refl, Option, Some, None}
+use Rattle.std.specs.Prelude.{Bool, true, false, cond, not, nat_eq, nat_le, ◌&&◌, ◌||◌}
+use Rattle.std.specs.List.{list_all}
 use Rattle.std.specs.Fmt.{decimal}
-use Rattle.std.proofs.Common.{arith, ap, subst, sym, ◌∙◌, inl, inr, lit≤}
-use Rattle.std.proofs.lemmas.Bool.{ne_eqb, le-ltb}
-use Rattle.std.proofs.lemmas.Fmt.{decimal_injective}
+use Rattle.std.proofs.Common.{arith, rules, ap, subst, sym, ◌∙◌, inl, inr, lit≤, lit<, get_or}
+use Rattle.std.proofs.lemmas.Bool.{ne_eqb, eq-eqb, eqb-true, le-leb, leb-true, le-ltb, and_parts}
+use Rattle.std.proofs.lemmas.Fmt.{decimal_injective, decimal-digits_value}
 use Rattle.std.proofs.lemmas.Option.{same_Some}
+use Rattle.std.proofs.lemmas.Str.Parse.{numerals_by_fold}
 use Rattle.om_signs.specs.declared.limits.TheConstants.{MAX_ELEMENTS}
 use Rattle.om_subsets.specs.Subsets.{IsSubsetFrom, IsMember, with_element}
 use Rattle.om_subsets.specs.Lists.{IsIncreasing}
 use Rattle.om_subsets.proofs.Statements.{subset_is_increasing}
 use Rattle.om_subsets.proofs.Order.{increasing_tail, head_below}
+use Rattle.om_lines.specs.Words.{is_digit, number_from, begins_with, is_decimal, up_to, unsigned}
+use Rattle.om_document.proofs.Numerals.{decimal_word, unsigned_word}
+use Rattle.om_words.specs.Options.{from_least, number_within}
 use Rattle.om_words.specs.Words.{IsElement}
+use Rattle.om_words.proofs.OptionLaws.{number_limits}
 use Rattle.om_words.proofs.WordLaws.{first_of, tail_of}
 
 -- ---- numbers
@@ -27,14 +34,74 @@ same_number e f le lf same = decimal_injective e f (small e le) (small f lf) sam
 pub one_element : (word : List ℕ) (e f : ℕ) → IsElement word e → IsElement word f → e ≡ f
 one_element word e f a b = same_number e f a.high b.high (sym a.digits ∙ b.digits)
 
--- a word that is the number of an element is that of no other
-pub this_element : (word : List ℕ) (e : ℕ) → 1 ≤ e → e ≤ MAX_ELEMENTS → word ≡ decimal e → (f : ℕ) → (Some e ≡ Some f)
-    ↔ IsElement word f
-this_element word e low high is f = (
-  λ same. let one : e ≡ f = same_Some _ _ same in
-      subst (IsElement word) one (record { low = low; high = high; digits = is }),
-  λ element. ap Some (same_number e f high element.high (sym is ∙ element.digits)),
+-- ---- the number that a word spells
+
+one_digit : (word : List ℕ) → (nat_eq (length word) 1 || not (begins_with 48 word)) ≡ true → get_or word 0 0 ≡ 48
+    → length word ≡ 1
+one_digit [] h zero = absurd (omega (arith, zero))
+one_digit (b ∷ bs) h zero =
+    eqb-true (length (b ∷ bs)) 1 (left (nat_eq (length (b ∷ bs)) 1) (rw (eq-eqb b 48 zero) at h))
+  where
+    left : (x : Bool) → (x || false) ≡ true → x ≡ true
+    left true h = refl
+    left false h = h
+
+-- the number that decimal digits spell is printed as these digits
+digits_back : (word : List ℕ) → is_decimal word ≡ true → number_from 0 word < 2 ^ 64
+    → decimal (number_from 0 word) ≡ word
+digits_back word is small =
+    let parts = and_parts (list_all is_digit word && nat_le 1 (length word))
+    (nat_eq (length word) 1 || not (begins_with 48 word)) is in
+    let digits = and_parts (list_all is_digit word) (nat_le 1 (length word)) parts.0 in
+    decimal-digits_value {P = λ ds. list_all is_digit ds ≡ true} {v = number_from 0}
+    (numerals_by_fold _ (search rules) number_from (search rules)) word digits.0 (leb-true 1 (length word) digits.1)
+    (one_digit word parts.1) small
+
+spelled_digits : (limit n : ℕ) (word : List ℕ) → limit < 2 ^ 64 → unsigned limit word ≡ Some n → word ≡ decimal n
+spelled_digits limit n word small is = by_word (is_decimal word) refl is
+  where
+    by_limit : (b : Bool) → nat_le (number_from 0 word) limit ≡ b → is_decimal word ≡ true
+        → cond b (Some (number_from 0 word)) None ≡ Some n → word ≡ decimal n
+    by_limit false low word_is same = cc
+    by_limit true low word_is same =
+        let few = leb-true (number_from 0 word) limit low in
+        sym (digits_back word word_is (omega (arith, few, small))) ∙ ap decimal (same_Some _ _ same)
+
+    by_word : (b : Bool) → is_decimal word ≡ b → cond b (up_to limit (number_from 0 word)) None ≡ Some n
+        → word ≡ decimal n
+    by_word false word_is same = cc
+    by_word true word_is same = by_limit (nat_le (number_from 0 word) limit) refl word_is same
+
+within_spelled : (least limit n : ℕ) (word : List ℕ) → number_within least limit word ≡ Some n
+    → unsigned limit word ≡ Some n
+within_spelled least limit n word is = one (unsigned limit word) is
+  where
+    one : (o : Option ℕ) → from_least least o ≡ Some n → o ≡ Some n
+    one None same = cc
+    one (Some k) same = low (nat_le least k) same
+      where
+        low : (b : Bool) → cond b (Some k) None ≡ Some n → ◌≡◌ {A = Option ℕ} (Some k) (Some n)
+        low false same = cc
+        low true same = same
+
+-- a word spells a number from 1 to the limit on elements where it is the number of an element
+pub element_number : (word : List ℕ) (e : ℕ) → (number_within 1 MAX_ELEMENTS word ≡ Some e) ↔ IsElement word e
+element_number word e = (
+  λ is. let l = number_limits 1 MAX_ELEMENTS e word is in record {
+    low = l.0;
+    high = l.1;
+    digits = spelled_digits MAX_ELEMENTS e word (lit< tt) (within_spelled 1 MAX_ELEMENTS e word is);
+  },
+  λ element.
+      let high = element.high in
+      let small : e < 10 ^ 64 = let limit : MAX_ELEMENTS < 10 ^ 64 = lit< tt in omega (arith, high, limit) in
+      rw (element.digits, unsigned_word MAX_ELEMENTS e (decimal_word e small) high, le-leb 1 e element.low) refl,
 )
+
+-- what is read of a word's bytes as a number up to the limit on elements is the element whose number the word is
+pub element_read : (word bytes : List ℕ) (greatest : ℕ) (read : Option ℕ) → bytes ≡ word → greatest ≡ MAX_ELEMENTS
+    → read ≡ number_within 1 greatest bytes → (e : ℕ) → (read ≡ Some e) ↔ IsElement word e
+element_read word bytes greatest read same limit is e = rw (is, same, limit) (element_number word e)
 
 pub this_above : (word : List ℕ) (last e : ℕ) → IsElement word e → last < e → (f : ℕ) → (Some e ≡ Some f)
     ↔ (IsElement word f × (last < f))

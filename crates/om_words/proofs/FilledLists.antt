@@ -12,7 +12,8 @@ use Rattle.std.proofs.lemmas.List.Elements.{filter_map-append}
 use Rattle.om_oriented.specs.declared.colour.Colour.{Colour}
 use Rattle.om_oriented.specs.declared.colour.Colour.TheVariants.{White}
 use Rattle.om_words.specs.declared.limits.TheConstants.{MAX_LISTED}
-use Rattle.om_words.specs.Listings.{padded, colour_of, colours_of}
+use Rattle.om_words.specs.Listings.{padded}
+use Rattle.om_words.specs.ListingSteps.{colour_of, colours_of}
 
 -- ---- a list that is filled in order
 

@@ -2,13 +2,14 @@
 --
 -- Main results: different elements are no more than there are (few_entries); those that words list are different, lie
 -- within the limit, and no sign is zero (lawful_leading). What tells whether a word may stand behind others: too_many,
--- none_spelt, spelt_before and may_follow.
+-- none_spelt, spelt_before and may_follow. A word that spells one is its word (signed_back).
 use Rattle.std.proofs.Math.Bool.{or-true, and-false}
 use Rattle.std.specs.Prelude.{ℕ, ◌≡◌, ◌≢◌, ◌<◌, ◌≤◌, ◌+◌, Bool, true, false, cond, nat_eq, nat_lt, List, []}
-use Rattle.std.specs.Prelude.{◌∷◌, ◌++◌, length, take, Option, Some, None, refl}
+use Rattle.std.specs.Prelude.{◌∷◌, ◌++◌, length, map, take, Option, Some, None, refl}
 use Rattle.std.specs.List.{list_any, filter_map, IsDistinct, AllByRecursion}
 use Rattle.std.proofs.Common.{get_or, eqb, suc, arith, ap, subst, sym, ◌∙◌, inl, inr, append_assoc, append-nil}
-use Rattle.std.proofs.lemmas.Bool.{false≢true, both_ways, and_parts, cases_eq, eq-eqb, ne_eqb, not-true, le-ltb, lt-ltb}
+use Rattle.std.proofs.lemmas.Bool.{false≢true, both_ways, and_parts, cases_eq, eq-eqb, eqb-true, ne_eqb, not-true}
+use Rattle.std.proofs.lemmas.Bool.{le-ltb, lt-ltb}
 use Rattle.std.proofs.lemmas.List.{take_at, length-map}
 use Rattle.std.proofs.lemmas.List.Folds.{list_any-append}
 use Rattle.std.proofs.lemmas.Map.Keys.{IsDistinct-cons}
@@ -18,13 +19,16 @@ use Rattle.om_signs.specs.declared.limits.TheConstants.{MAX_ELEMENTS}
 use Rattle.om_signs.specs.declared.sign.Sign.{Sign}
 use Rattle.om_signs.specs.declared.sign.Sign.TheVariants.{Plus, Minus, Zero}
 use Rattle.om_signs.proofs.SignLaws.{plus_nonzero, minus_nonzero}
+use Rattle.om_lines.specs.Words.{byte_of}
 use Rattle.om_lexext.specs.declared.signed.Signed.{Signed}
 use Rattle.om_lexext.specs.Lexicographic.{AreEntries, IsUnlisted, AreDifferent, AreNonzero, IsLexicographicList}
 use Rattle.om_words.specs.declared.limits.TheConstants.{MAX_LISTED}
 use Rattle.om_words.specs.declared.leading.Leading.{Leading}
 use Rattle.om_words.specs.Options.{number_within}
-use Rattle.om_words.specs.Listings.{with_sign, signed_of, has_element, is_among, is_new, is_leading, AreLeading}
+use Rattle.om_words.specs.Listings.{signed_word, AreLeading}
+use Rattle.om_words.specs.ListingSteps.{with_sign, signed_of, has_element, is_among, is_new, is_leading}
 use Rattle.om_words.specs.Tasks.{given_list, elements_of, AreLawful}
+use Rattle.om_words.proofs.ElementNumbers.{element_number}
 use Rattle.om_words.proofs.OptionLaws.{number_limits}
 
 -- ---- different elements are no more than there are elements
@@ -99,6 +103,28 @@ listed_of (b ∷ digits) x is = by_sign (nat_eq b 43) (nat_eq b 45) is
     by_sign false true made = listed_by Minus digits x minus_nonzero made
     by_sign false false made = cc
 
+-- a word that spells an element with a sign is the word of this element and sign
+pub signed_back : (word : List ℕ) (x : Signed) → signed_of word ≡ Some x → word ≡ signed_word x
+signed_back [] x is = cc
+signed_back (b ∷ digits) x is = by_sign (nat_eq b 43) refl (nat_eq b 45) refl is
+  where
+    by_number : (s : Sign) (o : Option ℕ) → number_within 1 MAX_ELEMENTS digits ≡ o → with_sign s o ≡ Some x
+        → byte_of s ∷ digits ≡ signed_word x
+    by_number s None number made = cc
+    by_number s (Some e) number made =
+        let one : record { element = e; sign = s } ≡ x = same_Some _ _ made in
+        rw ((element_number digits e).0 number).digits
+        (ap signed_word one)
+
+    by_sign : (p : Bool) → nat_eq b 43 ≡ p → (m : Bool) → nat_eq b 45 ≡ m
+        → cond p (with_sign Plus (number_within 1 MAX_ELEMENTS digits))
+        (cond m (with_sign Minus (number_within 1 MAX_ELEMENTS digits)) None) ≡ Some x → b ∷ digits ≡ signed_word x
+    by_sign true plus m minus made =
+        ap (λ k. k ∷ digits) (eqb-true b 43 plus) ∙ by_number Plus (number_within 1 MAX_ELEMENTS digits) refl made
+    by_sign false plus true minus made =
+        ap (λ k. k ∷ digits) (eqb-true b 45 minus) ∙ by_number Minus (number_within 1 MAX_ELEMENTS digits) refl made
+    by_sign false plus false minus made = cc
+
 -- ---- whether a word may stand behind others
 
 -- a word behind as many as may be listed
@@ -136,12 +162,13 @@ next_of before word leads =
 
 -- ---- the elements with signs of words that may stand behind others
 
-record AreListed (before words : List (List ℕ)) : Type 0 where
-  count : length (filter_map signed_of words) ≡ length words
-  entries : AreEntries MAX_ELEMENTS (filter_map signed_of words)
-  different : AreDifferent (filter_map signed_of words)
-  signed : AreNonzero (filter_map signed_of words)
-  apart : (e : ℕ) → is_among e before ≡ true → IsUnlisted e (filter_map signed_of words)
+pub record AreListed (before words : List (List ℕ)) : Type 0 where
+  pub count : length (filter_map signed_of words) ≡ length words
+  pub entries : AreEntries MAX_ELEMENTS (filter_map signed_of words)
+  pub different : AreDifferent (filter_map signed_of words)
+  pub signed : AreNonzero (filter_map signed_of words)
+  pub spelled : words ≡ map signed_word (filter_map signed_of words)
+  pub apart : (e : ℕ) → is_among e before ≡ true → IsUnlisted e (filter_map signed_of words)
 
 among_front : (e : ℕ) (before after : List (List ℕ)) → is_among e before ≡ true → is_among e (before ++ after) ≡ true
 among_front e before after among = rw (list_any-append (λ w. has_element e (signed_of w)) before after, among) refl
@@ -155,10 +182,17 @@ among_last before word x is =
       eq-eqb x.element x.element refl,
     ) (or-true (is_among x.element before))
 
-listed_words : (before words : List (List ℕ))
+pub listed_words : (before words : List (List ℕ))
     → ((i : ℕ) → i < length words → is_leading (before ++ take i words) (get_or words i []) ≡ true)
     → AreListed before words
-listed_words before [] each = record { count = refl; entries = tt; different = tt; signed = tt; apart = λ e among. tt }
+listed_words before [] each = record {
+  count = refl;
+  entries = tt;
+  different = tt;
+  signed = tt;
+  spelled = refl;
+  apart = λ e among. tt;
+}
 listed_words before (w ∷ ws) each =
     let first : is_leading before w ≡ true = rw (append-nil before) at (each 0 (omega arith)) in
     let next = next_of before w first in
@@ -177,6 +211,8 @@ listed_words before (w ∷ ws) each =
           entries = rw same (head.low, head.high, rest.entries);
           different = rw same (rest.apart x.element (among_last before w x is), rest.different);
           signed = rw same (head.signed, rest.signed);
+          spelled = rw same
+              (ap (λ k. k ∷ ws) (signed_back w x is) ∙ ap (λ ks. signed_word x ∷ ks) rest.spelled);
           apart = λ e among. rw same (
             (λ one. both_ways (is_among x.element before) new
                 (subst (λ k. is_among k before ≡ true) (sym one) among)),
@@ -186,20 +222,11 @@ listed_words before (w ∷ ws) each =
 
 pub lawful_leading : (words : List (List ℕ)) (leading : Leading) → AreLeading words leading → AreLawful leading
 lawful_leading words leading read =
-    let values : List Signed = filter_map signed_of words in
-    let listed = listed_words [] words read.each in
-    let size : length values ≡ leading.count = listed.count ∙ sym read.count in
-    let same : given_list leading ≡ values = ap (take leading.count) read.list ∙ take_at values _ leading.count size in
-    let some = read.some in
-    let count = listed.count in
-    let few : length values ≤ MAX_ELEMENTS = few_entries MAX_ELEMENTS values listed.entries listed.different in
+    let same : given_list leading ≡ read.listed =
+    ap (take leading.count) read.list ∙ take_at read.listed _ leading.count (sym read.count) in
+    let few = read.lawful.few in
+    let count = read.count in
     record {
-      few = omega (arith, size, few);
-      listed = subst (IsLexicographicList MAX_ELEMENTS) (sym same) (record {
-        some = omega (arith, some, count);
-        few = few;
-        entries = listed.entries;
-        different = listed.different;
-        signed = listed.signed;
-      });
+      few = omega (arith, few, count);
+      listed = subst (IsLexicographicList MAX_ELEMENTS) (sym same) read.lawful;
     }

@@ -3,6 +3,8 @@ mod FitLaws
 pub mod LeadingLaws
 mod FilledLists
 mod ListingLaws
+mod ReadListings
+mod ListingMeaning
 mod ElementNumbers
 mod Numerals
 mod OptionLaws

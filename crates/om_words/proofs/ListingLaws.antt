@@ -2,7 +2,7 @@
 --
 -- Main definitions: unlisted, AreSigned
 -- Main results: colouring_missing, colouring_letters, colouring_element, colouring_long, colouring_read, signed_none,
--- signed_more, leading_fault, leading_missing
+-- signed_more, leading_fault, leading_missing, leading_read
 use Rattle.std.specs.Prelude.{ℕ, ◌≡◌, ◌<◌, ◌≤◌, ◌+◌, ◌↔◌, true, false, List, [], ◌∷◌, length, map, replicate, Some}
 use Rattle.std.specs.Prelude.{None, Result, Ok, Err, IfErr, IsErrAnd, codes, refl}
 use Rattle.std.specs.List.{filter_map}
@@ -22,14 +22,16 @@ use Rattle.om_words.specs.declared.leading.Leading.{Leading}
 use Rattle.om_words.specs.Words.{IsElement, IsFault, at_word, at_end, HasValue, IsRead}
 use Rattle.om_words.specs.Readings.{EachFits}
 use Rattle.om_words.specs.Triples.{IsElementAt}
-use Rattle.om_words.specs.Listings.{padded, colour_of, colours_of, AreColouring, signed_of, is_leading, AreLeading}
+use Rattle.om_words.specs.Listings.{padded}
+use Rattle.om_words.specs.ListingSteps.{colour_of, colours_of, signed_of, is_leading}
+use Rattle.om_words.proofs.ReadListings.{IsReadColouring, IsReadLeading}
 use Rattle.om_words.proofs.WordLaws.{first_of, tail_of}
 use Rattle.om_words.proofs.ArgumentLaws.{no_value, none_some}
 use Rattle.om_words.proofs.ElementNumbers.{one_element}
-use Rattle.om_words.proofs.FitLaws.{FitBelow, none_fits, first_unfit}
+use Rattle.om_words.proofs.FitLaws.{FitBelow, fits_all, none_fits, first_unfit}
 use Rattle.om_words.proofs.ThreeWords.{same_there}
 use Rattle.om_words.proofs.TripleLaws.{none_at, word_of}
-use Rattle.om_words.proofs.FilledLists.{AreFilled, filled_none, filled_more}
+use Rattle.om_words.proofs.FilledLists.{AreFilled, filled_none, filled_more, filled_all}
 
 -- ---- colours and an element
 
@@ -37,11 +39,11 @@ one_element_word : IsElement (decimal 1) 1
 one_element_word = record { low = lit≤ tt; high = lit≤ tt; digits = refl }
 
 colouring_of : (u v : List ℕ) (colours : List Colour) (e : ℕ) → colours_of u ≡ Some colours → IsElement v e
-    → AreColouring (u ∷ v ∷ []) (record { colours = colours; count = length u; e = e })
+    → IsReadColouring (u ∷ v ∷ []) (record { colours = colours; count = length u; e = e })
 colouring_of u v colours e is element =
     record { letters = u; digits = v; two = refl; colours = is; count = refl; element = element }
 
-begin_colouring : Begins (HasValue AreColouring) []
+begin_colouring : Begins (HasValue IsReadColouring) []
 begin_colouring = (
   codes "R" ∷ decimal 1 ∷ [],
   (
@@ -51,42 +53,42 @@ begin_colouring = (
 )
 
 begin_letters : (u : List ℕ) (colours : List Colour) → colours_of u ≡ Some colours
-    → Begins (HasValue AreColouring) (u ∷ [])
+    → Begins (HasValue IsReadColouring) (u ∷ [])
 begin_letters u colours is = (
   decimal 1 ∷ [],
   (record { colours = colours; count = length u; e = 1 }, colouring_of u (decimal 1) colours 1 is one_element_word),
 )
 
 colouring_fault : (words : List (List ℕ)) (k : ℕ) (u : Usage) → u.word ≡ k + 1
-    → ((a : Colouring) → AreColouring words a → ⊥) → IsFault (HasValue AreColouring) words k
-    → IsRead AreColouring words (Err u)
+    → ((a : Colouring) → IsReadColouring words a → ⊥) → IsFault (HasValue IsReadColouring) words k
+    → IsRead IsReadColouring words (Err u)
 colouring_fault words k u is none fault =
     record { value = λ a. (λ made. absurd (no_value _ a made), λ h. absurd (none a h)); fault = (k, (is, fault)) }
 
 colouring_passed : (words : List (List ℕ)) (u : Usage) (passed : Result Colouring Usage) → IsErrAnd passed (λ e. e ≡ u)
-    → IsRead AreColouring words (Err u) → IsRead AreColouring words passed
+    → IsRead IsReadColouring words (Err u) → IsRead IsReadColouring words passed
 colouring_passed words u (Ok a) err read = absurd err
 colouring_passed words u (Err e) err read = rw err read
 
-first_letters : (u : List ℕ) (words : List (List ℕ)) (a : Colouring) → AreColouring (u ∷ words) a
+first_letters : (u : List ℕ) (words : List (List ℕ)) (a : Colouring) → IsReadColouring (u ∷ words) a
     → colours_of u ≡ Some a.colours
 first_letters u words a h = subst (λ w. colours_of w ≡ Some a.colours) (sym (ap first_of h.two)) h.colours
 
-second_element : (u v : List ℕ) (words : List (List ℕ)) (a : Colouring) → AreColouring (u ∷ v ∷ words) a
+second_element : (u v : List ℕ) (words : List (List ℕ)) (a : Colouring) → IsReadColouring (u ∷ v ∷ words) a
     → IsElement v a.e
 second_element u v words a h = subst (λ w. IsElement w a.e) (sym (ap (λ ws. first_of (tail_of ws)) h.two)) h.element
 
 pub colouring_missing : {X : Type 0} (f : X → List ℕ) (xs : List X) → length xs < 1
-    → IsRead AreColouring (map f xs) (Err (record { word = 2 }))
+    → IsRead IsReadColouring (map f xs) (Err (record { word = 2 }))
 colouring_missing f [] few =
     colouring_fault [] 1 (record { word = 2 }) refl none (at_end [] begin_colouring (λ h. none h.0 h.1))
   where
-    none : (a : Colouring) → AreColouring [] a → ⊥
+    none : (a : Colouring) → IsReadColouring [] a → ⊥
     none a h = let same = h.two in cc
 colouring_missing f (x ∷ xs) few = absurd (omega arith)
 
 pub colouring_letters : {X : Type 0} (f : X → List ℕ) (xs : List X) (x : X) → 0 < length xs → x ≡ get_or xs 0 x
-    → colours_of (f x) ≡ None → IsRead AreColouring (map f xs) (Err (record { word = 2 }))
+    → colours_of (f x) ≡ None → IsRead IsReadColouring (map f xs) (Err (record { word = 2 }))
 colouring_letters f [] x some is bad = absurd (omega arith)
 colouring_letters f (y ∷ ys) x some is bad =
     rw (sym is)
@@ -99,7 +101,7 @@ pub colouring_element : {X : Type 0} (f : X → List ℕ) (xs : List X) (x : X) 
     (result : Result ℕ Usage) (u : Usage) (passed : Result Colouring Usage) → 0 < length xs → x ≡ get_or xs 0 x
     → colours_of (f x) ≡ Some colours → ((e : ℕ) → (result ≡ Ok e) ↔ IsElementAt (map f xs) 1 1 MAX_ELEMENTS e)
     → IfErr result (λ usage. usage.word ≡ 3) → result ≡ Err u → IsErrAnd passed (λ e. e ≡ u)
-    → IsRead AreColouring (map f xs) passed
+    → IsRead IsReadColouring (map f xs) passed
 colouring_element f [] x colours result u passed some first letters value fault is err = absurd (omega arith)
 colouring_element f (y ∷ []) x colours result u passed some first letters value fault is err =
     colouring_passed (f y ∷ []) u passed err
@@ -107,7 +109,7 @@ colouring_element f (y ∷ []) x colours result u passed some first letters valu
     (colouring_fault (f x ∷ []) 2 u (word_of result u 3 fault is) none
     (at_end (f x ∷ []) (begin_letters (f x) colours letters) (λ h. none h.0 h.1))))
   where
-    none : (a : Colouring) → AreColouring (f x ∷ []) a → ⊥
+    none : (a : Colouring) → IsReadColouring (f x ∷ []) a → ⊥
     none a h = let same = ap tail_of h.two in cc
 colouring_element f (y ∷ z ∷ zs) x colours result u passed some first letters value fault is err =
     let none = none_at (IsElementAt (map f (y ∷ z ∷ zs)) 1 1 MAX_ELEMENTS) value is in
@@ -117,7 +119,7 @@ colouring_element f (y ∷ z ∷ zs) x colours result u passed some first letter
     (λ h. refused h.0 h.1.0 none h.1.1)))
   where
     refused : (more : List (List ℕ)) (a : Colouring)
-        → ((e : ℕ) → IsElementAt (map f (y ∷ z ∷ zs)) 1 1 MAX_ELEMENTS e → ⊥) → AreColouring (f y ∷ f z ∷ more) a → ⊥
+        → ((e : ℕ) → IsElementAt (map f (y ∷ z ∷ zs)) 1 1 MAX_ELEMENTS e → ⊥) → IsReadColouring (f y ∷ f z ∷ more) a → ⊥
     refused more a none h =
         let element = second_element (f y) (f z) more a h in
         none a.e (record {
@@ -129,7 +131,7 @@ colouring_element f (y ∷ z ∷ zs) x colours result u passed some first letter
 
 pub colouring_long : {X : Type 0} (f : X → List ℕ) (xs : List X) (x : X) (colours : List Colour) (e : ℕ)
     → x ≡ get_or xs 0 x → colours_of (f x) ≡ Some colours → IsElementAt (map f xs) 1 1 MAX_ELEMENTS e → 2 < length xs
-    → IsRead AreColouring (map f xs) (Err (record { word = 4 }))
+    → IsRead IsReadColouring (map f xs) (Err (record { word = 4 }))
 colouring_long f [] x colours e first letters at l = absurd (omega arith)
 colouring_long f (y ∷ []) x colours e first letters at l = absurd (omega arith)
 colouring_long f (y ∷ z ∷ []) x colours e first letters at l = absurd (omega arith)
@@ -144,12 +146,12 @@ colouring_long f (y ∷ z ∷ w ∷ ws) x colours e first letters at l =
       ),
     ) (λ h. too_long h.0 h.1.0 h.1.1))
   where
-    too_long : (more : List (List ℕ)) (a : Colouring) → AreColouring (f y ∷ f z ∷ f w ∷ more) a → ⊥
+    too_long : (more : List (List ℕ)) (a : Colouring) → IsReadColouring (f y ∷ f z ∷ f w ∷ more) a → ⊥
     too_long more a h = let same : f w ∷ more ≡ [] = ap (λ ws. tail_of (tail_of ws)) h.two in cc
 
 pub colouring_read : {X : Type 0} (f : X → List ℕ) (xs : List X) (x : X) (colours : List Colour) (n e : ℕ)
     → x ≡ get_or xs 0 x → colours_of (f x) ≡ Some colours → n ≡ length (f x) → IsElementAt (map f xs) 1 1 MAX_ELEMENTS e
-    → length xs ≤ 2 → IsRead AreColouring (map f xs) (Ok (record { colours = colours; count = n; e = e }))
+    → length xs ≤ 2 → IsRead IsReadColouring (map f xs) (Ok (record { colours = colours; count = n; e = e }))
 colouring_read f [] x colours n e first letters count at l = absurd (none_some at.word refl at.there)
 colouring_read f (y ∷ []) x colours n e first letters count at l = absurd (none_some at.word refl at.there)
 colouring_read f (y ∷ z ∷ w ∷ ws) x colours n e first letters count at l = absurd (omega arith)
@@ -161,7 +163,7 @@ colouring_read f (y ∷ z ∷ []) x colours n e first letters count at l =
       value = λ a. (
         λ made.
             let same : record { colours = colours; count = n; e = e } ≡ a = cc in
-            subst (AreColouring (f y ∷ f z ∷ [])) same (rw size (colouring_of (f y) (f z) colours e here element)),
+            subst (IsReadColouring (f y ∷ f z ∷ [])) same (rw size (colouring_of (f y) (f z) colours e here element)),
         λ h.
             let p : colours ≡ a.colours = same_Some _ _ (sym here ∙ first_letters (f y) (f z ∷ []) a h) in
             let q : n ≡ a.count = size ∙ ap (λ ws. length (first_of ws)) h.two ∙ sym h.count in
@@ -200,7 +202,7 @@ leading_of : List (List ℕ) → Leading
 leading_of words = record { list = padded unlisted (filter_map signed_of words); count = length words }
 
 leading_value : (words : List (List ℕ)) → 1 ≤ length words → EachFits is_leading words
-    → AreLeading words (leading_of words)
+    → IsReadLeading words (leading_of words)
 unfolding leading_of
 leading_value words some each = record { some = some; each = each; list = refl; count = refl }
 
@@ -208,7 +210,7 @@ sample_fits : EachFits is_leading (codes "+1" ∷ [])
 sample_fits zero l = refl
 sample_fits (suc i) l = absurd (omega arith)
 
-leading_begins : (words : List (List ℕ)) → EachFits is_leading words → Begins (HasValue AreLeading) words
+leading_begins : (words : List (List ℕ)) → EachFits is_leading words → Begins (HasValue IsReadLeading) words
 leading_begins [] each =
     (codes "+1" ∷ [], (leading_of (codes "+1" ∷ []), leading_value (codes "+1" ∷ []) (omega arith) sample_fits))
 leading_begins (w ∷ ws) each =
@@ -216,7 +218,7 @@ leading_begins (w ∷ ws) each =
 
 pub leading_fault : (words : List (List ℕ)) (k : ℕ) (word : List ℕ) (list : List Signed) → AreSigned words k list
     → k < length words → get_or words k [] ≡ word → is_leading (take k words) word ≡ false
-    → IsRead AreLeading words (Err (record { word = k + 2 }))
+    → IsRead IsReadLeading words (Err (record { word = k + 2 }))
 leading_fault words k word list passed l is unfit =
     let here : is_leading (take k words) (get_or words k []) ≡ false = rw is unfit in
     record {
@@ -225,19 +227,38 @@ leading_fault words k word list passed l is unfit =
         k + 1,
         (
           omega arith,
-          first_unfit (HasValue AreLeading) is_leading (λ ws h. h.1.each) leading_begins words k l
+          first_unfit (HasValue IsReadLeading) is_leading (λ ws h. h.1.each) leading_begins words k l
               passed.fit here,
         ),
       );
     }
 
 pub leading_missing : {X : Type 0} (f : X → List ℕ) (xs : List X) → length xs < 1
-    → IsRead AreLeading (map f xs) (Err (record { word = 2 }))
+    → IsRead IsReadLeading (map f xs) (Err (record { word = 2 }))
 leading_missing f [] few = record {
   value = λ a. (λ made. absurd (no_value _ a made), λ h. absurd (none (a, h)));
   fault = (1, (refl, at_end [] (leading_begins [] (λ i l. absurd (omega (arith, l)))) none));
 }
   where
-    none : HasValue AreLeading [] → ⊥
+    none : HasValue IsReadLeading [] → ⊥
     none h = let some = h.1.some in omega (arith, some)
 leading_missing f (x ∷ xs) few = absurd (omega arith)
+
+pub leading_read : (words : List (List ℕ)) (k n : ℕ) (list : List Signed) → AreSigned words k list → length words ≤ k
+    → 1 ≤ length words → n ≡ length words → IsRead IsReadLeading words (Ok (record { list = list; count = n }))
+leading_read words k n list passed l some size =
+    let filled : list ≡ padded unlisted (filter_map signed_of words) =
+    filled_all signed_of unlisted words k list passed.filled l in
+    let reads : IsReadLeading words (record { list = list; count = n }) =
+    record { some = some; each = fits_all is_leading words k l passed.fit; list = filled; count = size } in
+    record {
+      value = λ a. (
+        λ made. let same : record { list = list; count = n } ≡ a = cc in subst (IsReadLeading words) same reads,
+        λ h. ap Ok (same_leading list n a (filled ∙ sym h.list) (size ∙ sym h.count)),
+      );
+      fault = tt;
+    }
+  where
+    same_leading : (list : List Signed) (n : ℕ) (a : Leading) → list ≡ a.list → n ≡ a.count
+        → record { list = list; count = n } ≡ a
+    same_leading list n a p q = rw (p, q) refl

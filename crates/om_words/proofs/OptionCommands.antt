@@ -3,7 +3,7 @@
 -- Main definitions: AreSeedBefore
 -- Main results: set_read, set_fault, set_passed, budgets_same, seed_read, seed_missing, seed_bad, seed_fault,
 -- seed_passed
-use Rattle.std.specs.Prelude.{ℕ, ◌≡◌, ◌↔◌, ◌<◌, ◌+◌, List, [], ◌∷◌, ◌++◌, length, map, Some, None, Result, Ok, Err}
+use Rattle.std.specs.Prelude.{ℕ, ◌≡◌, ◌↔◌, ◌<◌, ◌+◌, List, [], ◌∷◌, length, map, Some, None, Result, Ok, Err}
 use Rattle.std.specs.Prelude.{IfErr, IsErrAnd, codes, refl}
 use Rattle.std.proofs.Common.{arith, ap, subst, sym, ◌∙◌}
 use Rattle.std.proofs.lemmas.Option.{same_Some}
@@ -15,7 +15,7 @@ use Rattle.om_words.specs.Words.{IsFault, at_word, at_end, HasValue, IsRead}
 use Rattle.om_words.specs.Readings.{IsReadBehind}
 use Rattle.om_words.specs.Options.{AreOptions, number_of, number_within, AreSet, AreSeedAndCount, budgets_of}
 use Rattle.om_words.proofs.ArgumentLaws.{no_value, none_some}
-use Rattle.om_words.proofs.WordLaws.{first_of, tail_of, fault_behind}
+use Rattle.om_words.proofs.WordLaws.{first_of, tail_of, fault_behind, fault_of}
 
 -- ---- commands with options
 
@@ -29,14 +29,6 @@ set_read settings amount words result a read is made = record {
   );
   fault = tt;
 }
-
-fault_of : (L M : List (List ℕ) → Type 0) → ((ws : List (List ℕ)) → L ws ↔ M ws) → {ws : List (List ℕ)} {k : ℕ}
-    → IsFault L ws k → IsFault M ws k
-fault_of L M same (at_word before word after begins none) =
-    at_word before word after (begins.0, (same (before ++ begins.0)).0 begins.1)
-    (λ b. none (b.0, (same (before ++ word ∷ [] ++ b.0)).1 b.1))
-fault_of L M same (at_end words begins none) =
-    at_end words (begins.0, (same (words ++ begins.0)).0 begins.1) (λ b. none ((same words).1 b))
 
 pub set_fault : {A : Type 0} (settings : List Setting) (amount : List (List ℕ) → A) (words : List (List ℕ))
     (result : Result (Unit {0}) Usage) (u : Usage) → IsReadBehind 1 (AreOptions settings) words result → result ≡ Err u

@@ -1,7 +1,9 @@
 -- The tasks of each verb are those of the values that the words behind it are read as.
 --
--- Main results: shape; what a verb and the words behind it name (task_named, fault_named).
-use Rattle.std.specs.Prelude.{ℕ, ◌≡◌, List, Result, Ok, Err, IsErrAnd, refl}
+-- Main results: shape; what a verb and the words behind it name (task_named, fault_named,
+-- named, bare_named).
+use Rattle.std.specs.Prelude.{ℕ, ◌≡◌, List, Result, Ok, Err, MatchResult, IsOkAnd, IsErrAnd, refl}
+use Rattle.std.specs.Prelude.{◌↔◌}
 use Rattle.std.proofs.Common.{subst}
 use Rattle.om_signs.specs.declared.sign.Sign.{Sign}
 use Rattle.om_document.specs.declared.kinds.Kind.{Kind}
@@ -15,8 +17,9 @@ use Rattle.om_words.specs.declared.colouring.Colouring.{Colouring}
 use Rattle.om_words.specs.declared.leading.Leading.{Leading}
 use Rattle.om_words.specs.declared.verb.Verb.{Verb}
 use Rattle.om_words.specs.declared.verb.Verb.TheVariants as verb
-use Rattle.om_words.specs.Words.{AreArguments, AreNamed, IsRead, verb_of}
-use Rattle.om_words.proofs.WordLaws.{IsShape, ok_named, err_passed}
+use Rattle.om_words.specs.Words.{AreArguments, AreNamed, AreNone, HasValue, IsBare, IsRead, verb_of}
+use Rattle.om_words.proofs.ArgumentLaws.{no_value}
+use Rattle.om_words.proofs.WordLaws.{IsShape, fault_of, ok_named, err_named, err_passed}
 
 -- ---- the tasks of a verb: a line for each verb in each of these
 
@@ -148,3 +151,37 @@ pub fault_named : (v u : Verb) (words : List (List ℕ)) (result : Result (Value
     → IsErrAnd passed (λ f. f ≡ e) → AreNamed u words passed
 fault_named v u words result e passed same read is err =
     rw same (err_passed v (IsReadAs v) (task_of v) words result e passed (shape v) read is err)
+
+-- both at once, where the task is made by `map`
+pub named : (v : Verb) {u : Verb} {words : List (List ℕ)} {result : Result (Value v) Usage} {made : Result Task Usage}
+    → u ≡ v → IsRead (IsReadAs v) words result
+    → MatchResult result (λ a. IsOkAnd made (λ t. t ≡ task_of v a)) (λ e. made ≡ Err e) → AreNamed u words made
+named v {u} {words} {result = Ok a} {made = Ok t} same read is = rw is (task_named v u words (Ok a) a same read refl)
+named v {u} {words} {result = Ok a} {made = Err e} same read is = absurd is
+named v {u} {words} {result = Err e} {made = made} same read is =
+    rw is (fault_named v u words (Err e) e (Err e) same read refl refl)
+
+-- the words behind a verb without words name its task, or the word at fault
+pub bare_named : {v u : Verb} (task : Task) {words : List (List ℕ)} {made : Result Task Usage} → u ≡ v
+    → IsShape v AreNone (λ _. task) → IsRead (IsBare task) words made → AreNamed u words made
+bare_named {v} {u} task {words} {made = Ok t} same shape read =
+    let is = (read.value t).0 refl in
+    rw (same, is.1) (ok_named v AreNone (λ _. task) words (Ok tt) tt shape
+    (record { value = λ a. (λ _. is.0, λ _. refl); fault = tt }) refl)
+bare_named {v} {u} task {words} {made = Err e} same shape read =
+    rw same (err_named v AreNone (λ _. task) words (Err e) e shape none refl)
+  where
+    none : IsRead AreNone words (Err e)
+    none = record {
+      value = λ a. (
+        λ made. absurd (no_value e a made),
+        λ h. absurd (no_value e task ((read.value task).1 (h, refl))),
+      );
+      fault = (
+        read.fault.0,
+        (read.fault.1.0, fault_of (HasValue (IsBare task)) (HasValue AreNone) bare read.fault.1.1),
+      );
+    }
+      where
+        bare : (ws : List (List ℕ)) → HasValue (IsBare task) ws ↔ HasValue AreNone ws
+        bare ws = (λ h. (tt, h.1.0), λ h. (task, (h.1, refl)))

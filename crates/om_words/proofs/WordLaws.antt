@@ -2,8 +2,8 @@
 -- verb.
 --
 -- Main definitions: tail_of, first_of, IsShape, IsValued
--- Main results: fault_behind, empty_begins, no_words_at_fault, no_words_named, first_named, first_at_fault, ok_named,
--- err_named, err_passed, first_and_rest
+-- Main results: fault_behind, fault_of, empty_begins, no_words_at_fault, no_words_named, first_named, first_at_fault,
+-- ok_named, err_named, err_passed, first_and_rest
 use Rattle.std.specs.Prelude.{ℕ, ◌≡◌, ◌<◌, ◌≤◌, ◌+◌, length, map, List, [], ◌∷◌, ◌++◌, codes, refl, ◌↔◌, Result, Ok}
 use Rattle.std.specs.Prelude.{Err, IfErr, IsErrAnd}
 use Rattle.std.proofs.Common.{get_or, drop, take, ◌-◌, arith, ap, subst, sym, ◌∙◌}
@@ -39,6 +39,15 @@ fault_behind L M first same (at_end words begins not) =
     let count : length (first ∷ words) + 1 ≡ length words + 1 + 1 = omega arith in
     subst (λ j. IsFault M (first ∷ words) j) count
     (at_end (first ∷ words) (begins.0, (same (words ++ begins.0)).0 begins.1) (λ b. not ((same words).1 b)))
+
+-- languages of the same lists have the same words at fault
+pub fault_of : (L M : List (List ℕ) → Type 0) → ((ws : List (List ℕ)) → L ws ↔ M ws) → {ws : List (List ℕ)} {k : ℕ}
+    → IsFault L ws k → IsFault M ws k
+fault_of L M same (at_word before word after begins none) =
+    at_word before word after (begins.0, (same (before ++ begins.0)).0 begins.1)
+    (λ b. none (b.0, (same (before ++ word ∷ [] ++ b.0)).1 b.1))
+fault_of L M same (at_end words begins none) =
+    at_end words (begins.0, (same (words ++ begins.0)).0 begins.1) (λ b. none ((same words).1 b))
 
 -- ---- no words, and a first word
 

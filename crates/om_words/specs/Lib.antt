@@ -3,6 +3,7 @@ pub mod Options
 pub mod Elements
 pub mod Triples
 pub mod Listings
+pub mod ListingSteps
 pub mod Words
 pub mod Tasks
 pub mod Samples

@@ -1,19 +1,17 @@
 -- Colours of elements, and elements with signs, as words list them.
-use Rattle.std.specs.Prelude.{ℕ, ◌≡◌, ◌≤◌, ◌-◌, ◌∷◌, ◌++◌, List, [], Bool, false, cond, not, nat_eq, nat_le, nat_lt}
-use Rattle.std.specs.Prelude.{◌&&◌, length, replicate, Option, Some, None, is_some, option_map}
-use Rattle.std.specs.List.{list_all, list_any, filter_map}
+use Rattle.std.specs.Prelude.{ℕ, ◌≡◌, ◌≤◌, ◌-◌, ◌∷◌, ◌++◌, List, [], length, map, replicate}
+use Rattle.std.specs.Fmt.{decimal}
 use Rattle.om_signs.specs.declared.limits.TheConstants.{MAX_ELEMENTS}
-use Rattle.om_signs.specs.declared.sign.Sign.{Sign}
-use Rattle.om_signs.specs.declared.sign.Sign.TheVariants.{Plus, Minus}
+use Rattle.om_signs.specs.declared.sign.Sign.TheVariants.{Plus}
+use Rattle.om_lines.specs.Words.{byte_of}
 use Rattle.om_oriented.specs.declared.colour.Colour.{Colour}
 use Rattle.om_oriented.specs.declared.colour.Colour.TheVariants.{Red, Green, Black, White}
 use Rattle.om_lexext.specs.declared.signed.Signed.{Signed}
+use Rattle.om_lexext.specs.Lexicographic.{IsLexicographicList}
 use Rattle.om_words.specs.declared.limits.TheConstants.{MAX_LISTED}
 use Rattle.om_words.specs.declared.colouring.Colouring.{Colouring}
 use Rattle.om_words.specs.declared.leading.Leading.{Leading}
 use Rattle.om_words.specs.Elements.{IsElement}
-use Rattle.om_words.specs.Fits.{EachFits}
-use Rattle.om_words.specs.Options.{number_within}
 
 -- the values, followed by the filler up to the greatest length of a list
 abbrev pub padded : {A : Type 0} → A → List A → List A
@@ -21,61 +19,34 @@ padded filler values = values ++ replicate (MAX_LISTED - length values) filler
 
 -- ---- `paint COLOURS E`
 
-abbrev pub colour_of : ℕ → Option Colour
-colour_of b =
-    cond (nat_eq b 82) (Some Red)
-    (cond (nat_eq b 71) (Some Green) (cond (nat_eq b 66) (Some Black) (cond (nat_eq b 87) (Some White) None)))
+-- the letter of a colour: `R`, `G`, `B` or `W`
+abbrev pub letter_of : Colour → ℕ
+letter_of Red = 82
+letter_of Green = 71
+letter_of Black = 66
+letter_of White = 87
 
--- 1 to 20 letters `R`, `G`, `B` or `W`
-abbrev pub are_colours : List ℕ → Bool
-are_colours word = nat_le 1 (length word) && nat_le (length word) MAX_LISTED
-    && list_all (λ b. is_some (colour_of b)) word
-
--- the colours that a word spells
-abbrev pub colours_of : List ℕ → Option (List Colour)
-colours_of word = cond (are_colours word) (Some (padded White (filter_map colour_of word))) None
-
--- the words are a colouring and an element
+-- the words are the letters of 1 to 20 colours and the number of an element
 pub record AreColouring (words : List (List ℕ)) (colouring : Colouring) : Type 0 where
-  pub letters : List ℕ
+  pub listed : List Colour
   pub digits : List ℕ
-  pub two : words ≡ letters ∷ digits ∷ []
-  pub colours : colours_of letters ≡ Some colouring.colours
-  pub count : colouring.count ≡ length letters
+  pub two : words ≡ map letter_of listed ∷ digits ∷ []
+  pub some : 1 ≤ length listed
+  pub few : length listed ≤ MAX_LISTED
+  pub colours : colouring.colours ≡ padded White listed
+  pub count : colouring.count ≡ length listed
   pub element : IsElement digits colouring.e
 
 -- ---- `lexext W..`
 
-abbrev pub with_sign : Sign → Option ℕ → Option Signed
-with_sign s e = option_map (λ (e : ℕ). record { element = e; sign = s }) e
+-- the word of an element with a sign: `+` or `-`, and the number of the element
+abbrev pub signed_word : Signed → List ℕ
+signed_word x = byte_of x.sign ∷ decimal x.element
 
--- the element with a sign that a word spells: `+` or `-`, and the number of the element
-abbrev pub signed_of : List ℕ → Option Signed
-signed_of [] = None
-signed_of (b ∷ digits) = cond (nat_eq b 43) (with_sign Plus (number_within 1 MAX_ELEMENTS digits))
-    (cond (nat_eq b 45) (with_sign Minus (number_within 1 MAX_ELEMENTS digits)) None)
-
-abbrev pub has_element : ℕ → Option Signed → Bool
-has_element e None = false
-has_element e (Some x) = nat_eq x.element e
-
--- whether some word spells element e with a sign
-abbrev pub is_among : ℕ → List (List ℕ) → Bool
-is_among e words = list_any (λ word. has_element e (signed_of word)) words
-
--- whether there is an element with a sign, and no word before spells this element
-abbrev pub is_new : List (List ℕ) → Option Signed → Bool
-is_new before None = false
-is_new before (Some x) = not (is_among x.element before)
-
--- whether the word spells an element with a sign, no word before spells this element, and fewer than 20 words stand
--- before
-abbrev pub is_leading : List (List ℕ) → List ℕ → Bool
-is_leading before word = nat_lt (length before) MAX_LISTED && is_new before (signed_of word)
-
--- the words spell distinct elements with signs
+-- the words are those of distinct elements with signs, at least one, and no sign is zero
 pub record AreLeading (words : List (List ℕ)) (leading : Leading) : Type 0 where
-  pub some : 1 ≤ length words
-  pub each : EachFits is_leading words
-  pub list : leading.list ≡ padded (record { element = 1; sign = Plus }) (filter_map signed_of words)
-  pub count : leading.count ≡ length words
+  pub listed : List Signed
+  pub lawful : IsLexicographicList MAX_ELEMENTS listed
+  pub spelled : words ≡ map signed_word listed
+  pub list : leading.list ≡ padded (record { element = 1; sign = Plus }) listed
+  pub count : leading.count ≡ length listed

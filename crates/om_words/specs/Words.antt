@@ -52,6 +52,10 @@ pub record AreElements (words : List (List ℕ)) (mask : ℕ) : Type 0 where
 abbrev pub AreNone : List (List ℕ) → Unit {0} → Type 0
 AreNone words _ = words ≡ []
 
+-- there is no word, and the other task is this one
+abbrev pub IsBare : Task → List (List ℕ) → Task → Type 0
+IsBare task words other = (words ≡ []) × (other ≡ task)
+
 -- there is exactly one word, and it spells the value
 abbrev pub IsAlone : {A : Type 0} → (List ℕ → A → Type 0) → List (List ℕ) → A → Type 0
 IsAlone Spelling words a = (word : List ℕ) × ((words ≡ word ∷ []) × Spelling word a)

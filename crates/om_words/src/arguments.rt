@@ -1,19 +1,20 @@
 //! Commands with no word after the first one, and commands with any number of elements after it.
 
 ghost use Rattle.std.specs.Prelude.{ℕ, ◌≡◌, ◌↔◌, ◌<◌, map, string_bytes};
-ghost use Rattle.om_words.specs.Words.{AreNone, AreElements, IsElement, IsRead};
+ghost use Rattle.om_words.specs.Words.{IsBare, AreElements, IsElement, IsRead};
 
 use super::spelling::element;
+use super::task::Task;
 use om_printing::Usage;
 use om_signs::MAX_ELEMENTS;
 use om_subsets::Subset;
 
-/// Checks that no word follows the first word of a command.
-pub fn none(rest: &[String]) -> Result<(), Usage>
-    ensures { IsRead AreNone (map string_bytes rest.now) result }
+/// The task, if no word follows the first word of its command.
+pub fn bare(task: Task, rest: &[String]) -> Result<Task, Usage>
+    ensures { IsRead (IsBare task) (map string_bytes rest.now) result }
 {
     if rest.is_empty() {
-        Ok(())
+        Ok(task)
     } else {
         Err(Usage { word: 2 })
     }

@@ -2,7 +2,8 @@
 
 ghost use Rattle.std.specs.Prelude.{◌≡◌, map, string_bytes};
 ghost use Rattle.om_words.specs.Words.{IsRead};
-ghost use Rattle.om_words.specs.Listings.{colour_of, colours_of, AreColouring};
+ghost use Rattle.om_words.specs.Listings.{AreColouring};
+ghost use Rattle.om_words.specs.ListingSteps.{colour_of, colours_of};
 
 use super::limits::MAX_LISTED;
 use super::triple::element_at;

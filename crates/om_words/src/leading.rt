@@ -2,7 +2,8 @@
 
 ghost use Rattle.std.specs.Prelude.{◌≡◌, ◌<◌, map, length, string_bytes, IfSome, IfNone, Some, true, false};
 ghost use Rattle.om_words.specs.Words.{IsRead};
-ghost use Rattle.om_words.specs.Listings.{signed_of, has_element, is_among, is_leading, AreLeading};
+ghost use Rattle.om_words.specs.Listings.{AreLeading};
+ghost use Rattle.om_words.specs.ListingSteps.{signed_of, has_element, is_among, is_leading};
 
 use super::limits::MAX_LISTED;
 use super::options::number_within;

@@ -2,12 +2,11 @@
 
 ghost use Rattle.std.specs.Prelude.{ℕ, ◌≡◌, ◌↔◌, ◌≤◌, List, IsTrue, map, length, string_bytes};
 ghost use Rattle.std.specs.List.{list_all};
-ghost use Rattle.std.specs.Fmt.{decimal};
 ghost use Rattle.om_signs.specs.declared.sign.Sign.{Sign};
 ghost use Rattle.om_lines.specs.Words.{is_sign, sign_of_byte};
 ghost use Rattle.om_words.specs.Words.{Spells, NamesKind, IsElement};
 
-use itoa::Buffer;
+use super::options::number_within;
 use om_document::Kind;
 use om_lines::words::{is_sign_byte, sign_of_byte};
 use om_signs::{MAX_ELEMENTS, SignVec};
@@ -19,24 +18,12 @@ pub fn is_word(word: &String, text: &str) -> bool
     word.as_str() == text
 }
 
-/// Whether the word is the decimal digits of n.
-fn is_number(word: &String, n: u8) -> bool
-    ensures { IsTrue result ↔ (string_bytes word.now ≡ decimal n) }
-{
-    let mut buffer = Buffer::new();
-    is_word(word, buffer.format(n))
-}
-
 /// The element whose number the word is.
 pub fn element(word: &String) -> Option<u8>
     ensures { (e : ℕ) → (result ≡ Some e) ↔ IsElement (string_bytes word.now) e }
 {
-    for e in 1..MAX_ELEMENTS + 1 {
-        if is_number(word, e) {
-            return Some(e);
-        }
-    }
-    None
+    let e = number_within(word.as_bytes(), 1, u32::from(MAX_ELEMENTS))?;
+    Some(e as u8)
 }
 
 /// The sign vector that the word spells.
@@ -63,8 +50,8 @@ fn sign_vector(word: &[u8]) -> SignVec
     ensures { result ≡ map sign_of_byte word.now }
 {
     let mut x = SignVec::zero(word.len() as u8);
-    for place in 0..word.len() {
-        x = x.set(place as u8 + 1, sign_of_byte(word[place]));
+    for (place, byte) in word.iter().enumerate() {
+        x = x.set(place as u8 + 1, sign_of_byte(*byte));
     }
     x
 }

@@ -5,7 +5,7 @@ ghost use Rattle.om_words.specs.Tasks.{HasLawfulArguments};
 ghost use Rattle.om_words.specs.Words.{Names, AreNamed, IsUsage};
 
 use super::argument::only;
-use super::arguments::{elements, none};
+use super::arguments::{bare, elements};
 use super::colouring::colours_and_element;
 use super::leading::signed_elements;
 use super::numbered::{budgets, lines, seed_and_count};
@@ -51,27 +51,15 @@ fn after_verb(verb: Verb, rest: &[String]) -> Result<Task, Usage>
     ensures { AreNamed verb (map string_bytes rest.now) result }
 {
     match verb {
-        Verb::Accept => {
-            none(rest)?;
-            Ok(Task::Accept)
-        }
-        Verb::Member => Ok(Task::Member(only(rest)?)),
-        Verb::Convert => Ok(Task::Convert(only(rest)?)),
-        Verb::Dual => {
-            none(rest)?;
-            Ok(Task::Dual)
-        }
-        Verb::Delete => Ok(Task::Delete(only(rest)?)),
-        Verb::Contract => Ok(Task::Contract(only(rest)?)),
-        Verb::Reorient => Ok(Task::Reorient(elements(rest)?)),
-        Verb::Wiring => {
-            none(rest)?;
-            Ok(Task::Wiring)
-        }
-        Verb::Mutations => {
-            none(rest)?;
-            Ok(Task::Mutations)
-        }
+        Verb::Accept => bare(Task::Accept, rest),
+        Verb::Member => only(rest).map(Task::Member),
+        Verb::Convert => only(rest).map(Task::Convert),
+        Verb::Dual => bare(Task::Dual, rest),
+        Verb::Delete => only(rest).map(Task::Delete),
+        Verb::Contract => only(rest).map(Task::Contract),
+        Verb::Reorient => elements(rest).map(Task::Reorient),
+        Verb::Wiring => bare(Task::Wiring, rest),
+        Verb::Mutations => bare(Task::Mutations, rest),
         Verb::Flip => {
             let (a, b, c) = triple(rest)?;
             Ok(Task::Flip(a, b, c))
@@ -79,25 +67,13 @@ fn after_verb(verb: Verb, rest: &[String]) -> Result<Task, Usage>
         Verb::Extend => Ok(Task::Extend {
             first: lines(rest)?,
         }),
-        Verb::Paint => Ok(Task::Paint(colours_and_element(rest)?)),
-        Verb::Hull => {
-            none(rest)?;
-            Ok(Task::Hull)
-        }
-        Verb::Lexext => Ok(Task::Lexext(signed_elements(rest)?)),
-        Verb::Threeterm => {
-            none(rest)?;
-            Ok(Task::Threeterm)
-        }
-        Verb::Upgrade => {
-            none(rest)?;
-            Ok(Task::Upgrade)
-        }
-        Verb::Decide => Ok(Task::Decide(budgets(rest)?)),
-        Verb::Check => {
-            none(rest)?;
-            Ok(Task::Check)
-        }
+        Verb::Paint => colours_and_element(rest).map(Task::Paint),
+        Verb::Hull => bare(Task::Hull, rest),
+        Verb::Lexext => signed_elements(rest).map(Task::Lexext),
+        Verb::Threeterm => bare(Task::Threeterm, rest),
+        Verb::Upgrade => bare(Task::Upgrade, rest),
+        Verb::Decide => budgets(rest).map(Task::Decide),
+        Verb::Check => bare(Task::Check, rest),
         Verb::Make => {
             let (seed, count) = seed_and_count(rest)?;
             Ok(Task::Make { seed, count })

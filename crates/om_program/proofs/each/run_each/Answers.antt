@@ -3,7 +3,7 @@ use Rattle.om_reply.specs.Statuses.{IsAnswered}
 use Rattle.om_pieces.proofs.Feeding.{has_one_cut}
 use Rattle.om_program.proofs.Runs.{run_answered, run_stopped, run_up_to_date, run_broken, reads_pieces}
 use Rattle.std.proofs.Math.Nat.{le_refl}
-use Rattle.om_program.proofs.Endings.{takes_none}
+use Rattle.om_port.proofs.Taking.{takes_none}
 use Rattle.om_program.proofs.FaultLaws.{usage_ne_read_fault}
 use Rattle.om_program.proofs.each.run_each.Goals as goal
 

@@ -5,7 +5,7 @@ use Rattle.om_program.specs.Meaning.{TaskMeans}
 use Rattle.om_pieces.specs.Making.{made}
 use Rattle.om_program.specs.Answered.{Stops}
 use Rattle.om_program.proofs.Chaining.{stops_at_once}
-use Rattle.om_program.proofs.Endings.{rose_before}
+use Rattle.om_port.proofs.Taking.{rose_before}
 use Rattle.om_program.proofs.Steps.{answered_replied, end_answers, end_breaks, end_breaks_later, end_stops}
 use Rattle.om_program.proofs.FaultLaws.{no_memory_ne_usage, no_memory_ne_read_fault, no_memory_ne_write_fault}
 use Rattle.om_program.proofs.piece_answers.answer_end.Goals as goal

@@ -1,9 +1,8 @@
 use Rattle.om_reply.specs.declared.status.Status.TheVariants as status
-use Rattle.om_program.proofs.Steps.{next_answers, next_breaks, only_own, no_piece}
+use Rattle.om_program.proofs.Steps.{next_answers, next_breaks, only_own, no_piece, replied_not}
 use Rattle.std.proofs.Common.{refl, subst}
 use Rattle.std.proofs.Math.Nat.{le_refl}
 use Rattle.om_reply.specs.Statuses.{IsReplied}
-use Rattle.om_program.proofs.Endings.{replied_not}
 use Rattle.om_program.proofs.piece_answers.answer_next.Goals as goal
 
 pub returns-in-Some-clause-answer : goal.returns-in-Some-clause-answer

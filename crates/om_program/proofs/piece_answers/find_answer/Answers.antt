@@ -9,4 +9,5 @@ returns-then-piece-le-MAX_INPUT-clause-reply g c =
     IfOk-weaker c.answer_input.result _ _ (λ answer meant. task_replies _ _ answer meant) c.answer_input.ensures
 
 pub returns-else-piece-le-MAX_INPUT-clause-meant : goal.returns-else-piece-le-MAX_INPUT-clause-meant
-returns-else-piece-le-MAX_INPUT-clause-meant g c = long_task c.args.task.now c.args.piece.now c.requires.reading (omega arith)
+returns-else-piece-le-MAX_INPUT-clause-meant g c =
+    long_task c.args.task.now c.args.piece.now c.requires.reading (omega arith)

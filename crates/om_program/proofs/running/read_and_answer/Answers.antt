@@ -5,7 +5,7 @@ use Rattle.om_program.proofs.MeaningLaws.{meant_of_long, taken_whole, taken_long
 use Rattle.om_program.proofs.PlanLaws.{long_reading}
 use Rattle.om_program.proofs.ReplyLaws.{reading_replies}
 use Rattle.std.proofs.Common.{inl, inr, refl}
-use Rattle.om_program.proofs.Readings.{taken_to_end}
+use Rattle.om_port.proofs.Taking.{taken_to_end}
 use Rattle.om_program.proofs.running.read_and_answer.Goals as goal
 
 pub returns-in_ok-answer_reading-in-Ok-clause-reply : goal.returns-in_ok-answer_reading-in-Ok-clause-reply

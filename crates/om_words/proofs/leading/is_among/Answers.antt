@@ -1,5 +1,5 @@
 use Rattle.std.proofs.Common.{sym, ap, ◌∙◌, below_more, []}
-use Rattle.om_words.specs.Listings.{has_element, signed_of}
+use Rattle.om_words.specs.ListingSteps.{has_element, signed_of}
 use Rattle.om_words.proofs.FitLaws.{item_word, any_found, any_none}
 use Rattle.om_words.proofs.Numerals.{length-words, length-words_end}
 use Rattle.om_words.proofs.leading.is_among.Goals as goal

@@ -1,6 +1,6 @@
 use Rattle.std.specs.Prelude.{ℕ, ◌≡◌, ◌<◌, [], false, map, string_bytes}
 use Rattle.std.proofs.Common.{get_or}
-use Rattle.om_words.specs.Listings.{has_element, signed_of}
+use Rattle.om_words.specs.ListingSteps.{has_element, signed_of}
 use Rattle.om_words.proofs.leading.is_among.Given as goal
 
 abbrev pub invariant-loop-word : goal.invariant-loop-word

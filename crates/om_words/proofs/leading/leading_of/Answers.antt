@@ -1,7 +1,7 @@
 use Rattle.std.proofs.Common.{◌≤◌, ◌<◌, ◌∙◌, sym, ap, subst, arith, map, string_bytes}
 use Rattle.std.proofs.lemmas.List.{length-map}
 use Rattle.om_words.specs.declared.limits.TheConstants.{MAX_LISTED}
-use Rattle.om_words.specs.Listings.{signed_of}
+use Rattle.om_words.specs.ListingSteps.{signed_of}
 use Rattle.om_words.proofs.LeadingLaws.{too_many, none_spelt, spelt_before, may_follow}
 use Rattle.om_words.proofs.leading.leading_of.Goals as goal
 
