@@ -1,27 +1,17 @@
 -- The pieces of the bytes of one reading, and of the end of the input.
 --
--- Main results: made_byte, loop_outcome, loop_going, loop_ends, made_end
-use Rattle.std.specs.Prelude.{ℕ, ◌≡◌, ◌+◌, ◌<◌, ◌≤◌, List, [], ◌∷◌, ◌++◌, Option, length, drop, get_or}
-use Rattle.std.proofs.Common.{suc, sym, ap, subst, ◌∙◌, arith, drop-cons}
+-- Main results: loop_outcome, loop_going, loop_ends
+use Rattle.std.specs.Prelude.{ℕ, ◌≡◌, ◌+◌, ◌<◌, ◌≤◌, List, ◌∷◌, ◌++◌, Option, length, drop, get_or}
+use Rattle.std.proofs.Common.{ap, subst}
 use Rattle.std.proofs.lemmas.List.{drop_all}
-use Rattle.om_pieces.specs.Making.{Making, fed, last_ended, rest_of, option_list, made}
+use Rattle.om_pieces.specs.Making.{Making, made}
+use Rattle.om_pieces.proofs.Steps.{bytes_at}
 use Rattle.om_reply.specs.declared.status.Status.{Status}
 use Rattle.om_reply.specs.declared.status.Status.TheVariants.{Done}
 use Rattle.om_classification.specs.declared.progress.Progress.{Progress}
 use Rattle.om_classification.specs.declared.request.Request.{Request}
 use Rattle.om_classification.specs.Answers.{IsGoing, IsOutcome}
 use Rattle.om_classification.proofs.Written.{still}
-
-pub made_byte : (m now : Making) (piece : Option (List ℕ)) (b : ℕ) (rest : List ℕ)
-    → ◌≡◌ {A = Making × Option (List ℕ)} (now, piece) (fed m b) → made m (b ∷ rest) ≡ option_list piece ++ made now rest
-made_byte m now piece b rest e = sym (ap (λ (k : Making × Option (List ℕ)). option_list (k.1) ++ made (k.0) rest) e)
-
--- the byte at a place in front of the bytes behind it
-bytes_at : (bytes rest : List ℕ) (i : ℕ) → i < length bytes → drop i bytes ++ rest ≡ get_or bytes i 0 ∷
-    (drop (i + 1) bytes ++ rest)
-bytes_at bytes rest i h =
-    ap (λ l. l ++ rest) (drop-cons bytes i 0 h ∙ ap (λ k. get_or bytes i 0 ∷ drop k bytes)
-    (let e : suc i ≡ i + 1 = omega arith in e))
 
 -- a byte behind which the run goes on
 pub loop_going : (r : Request) (all : List (List ℕ)) (now later : Making) (s new : Progress) (bytes rest : List ℕ)
@@ -53,9 +43,3 @@ pub loop_ends : (r : Request) (all : List (List ℕ)) (now : Making) (s : Progre
     → IsGoing r all s (made now rest) o p
 loop_ends r all now s bytes rest i o p h g =
     subst (λ l. IsGoing r all s (made now l) o p) (ap (λ l. l ++ rest) (drop_all i bytes h)) g
-
-pub made_end : (m now : Making) (piece left : Option (List ℕ)) → ◌≡◌ {A = Making × Option (List ℕ)} (now, piece)
-    (last_ended m) → left ≡ rest_of now → made m [] ≡ option_list piece ++ option_list left
-made_end m now piece left e f =
-    sym (ap (λ (k : Making × Option (List ℕ)). option_list (k.1) ++ option_list (rest_of (k.0))) e)
-    ∙ ap (λ l. option_list piece ++ option_list l) (sym f)

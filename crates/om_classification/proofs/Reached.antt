@@ -1,58 +1,19 @@
 -- How far a run has come after a reading.
 --
 -- Main definitions: Reaches
--- Main results: reach_start, reach_further, reach_stops, reach_stops_later, reach_end, taken_to_end, all_taken,
--- taken_more, taken_still, none_taken, takes_none, rose_before
-use Rattle.std.specs.Prelude.{ℕ, ◌≡◌, ◌≤◌, ◌++◌, List, [], Option, Some, None, IfSome, take}
-use Rattle.std.proofs.Common.{refl, sym, ap, ◌∙◌, subst, append-nil, arith}
-use Rattle.std.specs.Io.KnownBytes.{Consumes, IsAtEnd, Keeps}
-use Rattle.om_port.specs.Causes.{Rose, TakesSome}
-use Rattle.om_port.proofs.Known.{Consumes-then}
+-- Main results: reach_start, reach_further, reach_stops_later, reach_end, reach_read_fault, reach_no_memory
+use Rattle.std.specs.Prelude.{ℕ, ◌≡◌, ◌++◌, List, [], Option, Some, None, IfSome}
+use Rattle.std.proofs.Common.{refl, sym, ◌∙◌, subst}
+use Rattle.std.specs.Io.KnownBytes.{Consumes, IsAtEnd}
 use Rattle.om_pieces.specs.Making.{Making, made, nothing}
 use Rattle.om_reply.specs.declared.status.Status.{Status}
 use Rattle.om_reply.specs.declared.status.Status.TheVariants.{Done, ReadFault, NoMemory}
 use Rattle.om_classification.specs.declared.progress.Progress.{Progress}
 use Rattle.om_classification.specs.declared.request.Request.{Request}
 use Rattle.om_classification.specs.Answers.{IsGoing, IsOutcome, IsStopped, started}
-use Rattle.om_classification.specs.Runs.{ends, HasRun, TakesAll}
+use Rattle.om_classification.specs.Runs.{ends, HasRun}
 use Rattle.om_classification.proofs.Whole.{run_stopped}
 use Rattle.om_classification.proofs.Written.{begins, going_first, stopped}
-
--- ---- bytes that are taken
-
-taken_to_end : (old new : Option (List ℕ)) (bytes : List ℕ) → Consumes old new bytes → IsAtEnd new
-    → TakesAll old new
-taken_to_end None new bytes c e = tt
-taken_to_end (Some old) None bytes c e = absurd c
-taken_to_end (Some old) (Some new) bytes c e = rw e (sym (append-nil old))
-
-pub all_taken : (old now new : Option (List ℕ)) → TakesSome old now → Consumes now new [] → IsAtEnd new
-    → TakesAll old new
-all_taken old now new (bs, t) c e = taken_to_end old new (bs ++ []) (Consumes-then old now new bs [] t c) e
-
-pub taken_more : (old now new : Option (List ℕ)) (bytes : List ℕ) → TakesSome old now → Consumes now new bytes
-    → TakesSome old new
-taken_more old now new bytes (bs, t) c = (bs ++ bytes, Consumes-then old now new bs bytes t c)
-
-pub taken_still : (old now new : Option (List ℕ)) → TakesSome old now → Keeps now new → TakesSome old new
-taken_still None now new (bs, t) k = ([], tt)
-taken_still (Some old) None new (bs, t) k = absurd t
-taken_still (Some old) (Some now) None (bs, t) k = absurd k
-taken_still (Some old) (Some now) (Some new) (bs, t) k = (bs, t ∙ ap (λ l. bs ++ l) (sym k))
-
-pub none_taken : (k : ℕ) (buf : List ℕ) (old new : Option (List ℕ)) → k ≡ 0 → Consumes old new (take k buf)
-    → Consumes old new []
-none_taken k buf old new e c = subst (λ j. Consumes old new (take j buf)) e c
-
-pub takes_none : (left : Option (List ℕ)) → TakesSome left left
-takes_none None = ([], tt)
-takes_none (Some bytes) = ([], refl)
-
--- a count that rose later rose from an earlier value
-pub rose_before : (first now later : ℕ) → first ≤ now → Rose now later → Rose first later
-rose_before first now later l r = omega (arith, l, r)
-
--- ---- runs
 
 -- how far the run has come in the pieces that are made with all bytes, where the source tells those that it had left
 abbrev pub Reaches : Request → Option (List ℕ) → Making → Progress → Option (List ℕ) → Option (List ℕ)

@@ -1,17 +1,8 @@
--- Results and options, and texts that are put behind others.
+-- Results, and texts that are put behind others.
 --
--- Main results: none_some, same_ok, no_value, ok_both, behind
-use Rattle.std.specs.Prelude.{ℕ, ◌≡◌, ◌++◌, List, Option, None, Some, Result, Ok, Err, IfOk, OnOk}
+-- Main results: ok_both, behind
+use Rattle.std.specs.Prelude.{ℕ, ◌≡◌, ◌++◌, List, Result, Ok, Err, IfOk, OnOk}
 use Rattle.std.proofs.Common.{sym, ap, ◌∙◌, append_assoc}
-
-pub none_some : {A : Type 0} {o : Option A} (a : A) → o ≡ None → o ≡ Some a → ⊥
-none_some {A = A} a none some = let same : ◌≡◌ {A = Option A} None (Some a) = sym none ∙ some in cc
-
-pub same_ok : {A E : Type 0} (a b : A) → ◌≡◌ {A = Result A E} (Ok a) (Ok b) → a ≡ b
-same_ok a b e = cc
-
-pub no_value : {A E : Type 0} (e : E) (a : A) → ◌≡◌ {A = Result A E} (Err e) (Ok a) → ⊥
-no_value e a same = cc
 
 -- what two facts on a result say together
 pub ok_both : {A E : Type 0} (result : Result A E) (P Q R : A → Type 0) → ((a : A) → P a → Q a → R a)

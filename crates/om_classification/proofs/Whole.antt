@@ -2,7 +2,7 @@
 --
 -- Main results: run_stopped
 use Rattle.std.specs.Prelude.{ℕ, ◌≡◌, ◌+◌, ◌≤◌, List, [], ◌∷◌, ◌++◌, map, take, length, Option}
-use Rattle.std.proofs.Common.{refl, sym, ap, ◌∙◌, subst, arith, inl, inr}
+use Rattle.std.proofs.Common.{refl, ap, ◌∙◌, subst, arith, inl, inr}
 use Rattle.std.proofs.lemmas.List.{length-take, take_all, length-map}
 use Rattle.std.proofs.lemmas.Bool.{cases_lt}
 use Rattle.om_signs.specs.declared.limits.TheConstants.{MAX_INPUT}
@@ -12,6 +12,7 @@ use Rattle.om_lines.specs.Lines.{lines}
 use Rattle.om_text.specs.Fault.{IsFault}
 use Rattle.om_pieces.specs.Making.{most, made, nothing}
 use Rattle.om_pieces.proofs.Feeding.{cut_pieces, has_one_cut}
+use Rattle.om_pieces.proofs.Steps.{parted}
 use Rattle.om_reply.specs.declared.status.Status.{Status}
 use Rattle.om_reply.specs.declared.status.Status.TheVariants.{Done, Refused, Usage, Limit, ReadFault, WriteFault}
 use Rattle.om_reply.specs.declared.status.Status.TheVariants.{NoMemory}
@@ -70,9 +71,6 @@ heads a b xs ys e = cc
 tails : (a b : List ℕ) (xs ys : List (List ℕ)) → ◌≡◌ {A = List (List ℕ)} (a ∷ xs) (b ∷ ys) → xs ≡ ys
 tails a b xs ys e = cc
 
-both : (a b : List ℕ) (xs ys : List (List ℕ)) → a ≡ b → xs ≡ ys → ◌≡◌ {A = List (List ℕ)} (a ∷ xs) (b ∷ ys)
-both a b xs ys e f = cc
-
 documents_whole : (fronts pieces : List (List ℕ)) (maps : List SignMap) → fronts ≡ map (take most) pieces
     → AreDocuments fronts maps → AreDocuments pieces maps
 documents_whole fronts [] maps e none = none
@@ -110,27 +108,6 @@ wrong_whole r lists maps k fronts [] l e (unfit p ps m why d size h) = absurd (f
 wrong_whole r lists maps k fronts (q ∷ qs) l e (unfit p ps m why d size h) =
     unfit q qs m why (member_whole q m (subst (λ x. IsMember x m) (heads _ _ _ _ e) d)) size h
 wrong_whole r lists maps k fronts pieces l e (gap left why over h) = gap pieces why (ended_whole _ left pieces e over) h
-
--- what is in front of the first bytes of pieces are the first bytes of the first ones
-pub record IsParted (pieces qs left : List (List ℕ)) : Type 0 where
-  pub first : List (List ℕ)
-  pub last : List (List ℕ)
-  pub whole : pieces ≡ first ++ last
-  pub front : qs ≡ map (take most) first
-  pub behind : left ≡ map (take most) last
-
-parted : (pieces qs left : List (List ℕ)) → map (take most) pieces ≡ qs ++ left → IsParted pieces qs left
-parted pieces [] left e = record { first = []; last = pieces; whole = refl; front = refl; behind = sym e }
-parted [] (q ∷ qs) left e = absurd (empty_full _ _ e)
-parted (p ∷ ps) (q ∷ qs) left e =
-    let i = parted ps qs left (tails _ _ _ _ e) in
-    record {
-      first = p ∷ i.first;
-      last = i.last;
-      whole = ap (λ l. p ∷ l) i.whole;
-      front = both _ _ _ _ (sym (heads _ _ _ _ e)) i.front;
-      behind = i.behind;
-    }
 
 -- ---- texts
 

@@ -2,10 +2,11 @@
 --
 -- Main definitions: IsOneWritten
 -- Main results: still, stopped, going_first, piece_outcome, end_stopped, usage_not_read, usage_not_done, begins
-use Rattle.std.specs.Prelude.{ℕ, ◌≡◌, ◌⊎◌, ◌+◌, List, [], ◌∷◌, ◌++◌, Option, Some, None, length, take}
+use Rattle.std.specs.Prelude.{ℕ, ◌≡◌, ◌⊎◌, ◌+◌, List, [], ◌∷◌, ◌++◌, Option, length, take}
 use Rattle.std.proofs.Common.{zero, suc, refl, sym, ap, subst, ◌∙◌, append-nil, length-append, arith, inl, inr}
 use Rattle.std.specs.Io.KnownBytes.{Appends}
 use Rattle.om_port.proofs.Known.{Appends-then}
+use Rattle.om_port.proofs.Taking.{appended_none}
 use Rattle.om_reply.specs.declared.status.Status.{Status}
 use Rattle.om_reply.specs.declared.status.Status.TheVariants.{Done, Refused, Usage, Limit, ReadFault, WriteFault}
 use Rattle.om_reply.specs.declared.status.Status.TheVariants.{NoMemory}
@@ -21,10 +22,6 @@ use Rattle.om_classification.specs.Answers.{IsGoing, IsStopped, IsOutcome, start
 use Rattle.om_classification.specs.LeastMaps.{no_map}
 use Rattle.om_classification.specs.Lists.{IsTextOfFirst, no_more, none}
 use Rattle.om_classification.specs.Progress.{State, IsUnderway}
-
-appended_none : (o : Option (List ℕ)) → Appends o o []
-appended_none None = tt
-appended_none (Some o) = sym (append-nil o)
 
 -- ---- statuses
 

@@ -2,13 +2,15 @@
 --
 -- Main definitions: IsTried, IsComparable
 -- Main results: first signs before those of the map (image_before, not_least), behind them (passed_over) and the same
--- to the end (least_at_end); what holds with each next entry holds (least_by_entries); one more entry (comparable), and
--- no entry (tied_at_start, nothing_listed).
+-- to the end (least_at_end); what holds with each next entry holds (least_by_entries); one more entry (comparable,
+-- next_requires), and no entry (tied_at_start, nothing_listed).
 use Rattle.std.proofs.Common.{ℕ, suc, ◌≡◌, ◌+◌, ◌-◌, ◌<◌, ◌≤◌, Bool, true, false, List, [], ◌∷◌, ◌++◌, length, take}
 use Rattle.std.proofs.Common.{refl, sym, ap, subst, ◌∙◌, arith}
 use Rattle.std.specs.declared.cmp.Ordering.TheVariants.{Greater}
 use Rattle.std.specs.Ordering.{ordering_then}
 use Rattle.std.proofs.lemmas.List.{length_push, take_all}
+use Rattle.std.proofs.lemmas.Bool.{false≢true}
+use Rattle.om_signs.specs.declared.limits.TheConstants.{MAX_PLACES, MAX_ELEMENTS}
 use Rattle.om_signs.specs.declared.sign.Sign.{Sign}
 use Rattle.om_signs.specs.Order.{lexicographic}
 use Rattle.om_signs.specs.OrderLaws.{order_of_same}
@@ -102,6 +104,15 @@ module _ (m : SignMap) (w u : List SignedElement) (a : SignedElement) (q : u ≡
         tied = subst (λ j. take (choose j m.rank) (first_image_signs m (w ++ a ∷ []))
             ≡ take (choose j m.rank) (first_signs m (length (w ++ a ∷ [])))) back (tied_on m w a tied);
       })
+
+-- what a call with one more entry requires, of what is known where it is made
+pub next_requires : (m : SignMap) (w : List SignedElement) (n size e : ℕ) (has : Bool) → n ≡ m.elements
+    → n ≤ MAX_ELEMENTS → size ≡ length w → (size ≡ n → ⊥) → length w ≤ m.elements → 1 ≤ e → e < n + 1 → has ≡ false
+    → (IsMember e (elements_of w) → has ≡ true)
+    → (length w < m.elements) × (length w < MAX_PLACES) × IsElement m.elements e × (IsMember e (elements_of w) → ⊥)
+next_requires m w n size e has value high ql other few low test absent member =
+    let less : length w < m.elements = omega (arith, value, ql, other, few) in
+    (less, omega (arith, less, value, high), (low, omega (arith, value, test)), λ h. false≢true (sym absent ∙ member h))
 
 -- ---- the start
 

@@ -2,7 +2,8 @@
 --
 -- Main definitions: AgreeTo
 -- Main results: no triple so far (triples_begun), triples that differ (triples_differ), one triple more (triples_more),
--- all with a second element (next_second) and all (triples_all); the value of a triple in an image (image_triple).
+-- all with a second element (next_second) and all (triples_all); the value of a triple in an image (image_triple); the
+-- elements of a triple (old_triple), and what a table says of it (looked).
 use Rattle.std.proofs.Common.{ℕ, zero, suc, ◌≡◌, ◌+◌, ◌-◌, ◌<◌, ◌≤◌, List, [], ◌∷◌, length, map, take, sym, ap}
 use Rattle.std.proofs.Common.{subst, ◌∙◌, arith}
 use Rattle.std.specs.declared.cmp.Ordering.{Ordering}
@@ -10,6 +11,7 @@ use Rattle.std.specs.declared.cmp.Ordering.TheVariants.{Equal}
 use Rattle.om_signs.specs.declared.sign.Sign.{Sign}
 use Rattle.om_signs.specs.declared.sign.Sign.TheVariants.{Plus}
 use Rattle.om_signs.specs.Sign.{product}
+use Rattle.om_signs.specs.SignVec.{at}
 use Rattle.om_signs.specs.Order.{sign_order, lexicographic}
 use Rattle.om_signs.proofs.SignLaws.{product-plus}
 use Rattle.om_subsets.specs.Subsets.{choose}
@@ -17,11 +19,14 @@ use Rattle.om_subsets.specs.Reverse.{revlex_subsets, revlex_subset_at, revlex_ra
 use Rattle.om_subsets.proofs.Counts.{choose_one, choose_grows}
 use Rattle.om_subsets.proofs.ReversePlaces.{reverse_small, at_reverse_rank}
 use Rattle.om_subsets.proofs.Triples.{triple_subset}
+use Rattle.om_laws.specs.Sorting.{IsElement}
 use Rattle.om_laws.proofs.SortingLaws.{value_increasing}
 use Rattle.om_chirotope.specs.Map.{SignMap, chi_of, value_of}
 use Rattle.om_symmetry.specs.declared.signed_element.SignedElement.{SignedElement}
 use Rattle.om_symmetry.specs.Permutations.{signed_at, sign_of, image_value}
-use Rattle.om_least.specs.Beginnings.{first_signs, first_image_signs}
+use Rattle.om_least.specs.Beginnings.{IsBeginning, first_signs, first_image_signs}
+use Rattle.om_least.specs.Triples.{IsTableOfValues, place_of_triple}
+use Rattle.om_least.proofs.Tuples.{entry_within}
 use Rattle.om_least.proofs.Reverse.{differs_at, agrees_more, agrees_on_all}
 
 -- the first signs of the images and of the map are the same up to a place
@@ -84,6 +89,37 @@ image_triple m w i j k a b c v qa qb qc qv =
 own_triple : (m : SignMap) (i j k : ℕ) (u : Sign) → i < j → j < k → u ≡ value_of m (i ∷ j ∷ k ∷ [])
     → u ≡ chi_of m (i ∷ j ∷ k ∷ [])
 own_triple m i j k u ij jk q = q ∙ value_increasing (chi_of m) (i ∷ j ∷ k ∷ []) (ij, (jk, tt))
+
+-- what a table of the values says of a triple of the first elements: its sign in the images, and its own
+pub record IsLooked (m : SignMap) (w : List SignedElement) (i j : ℕ) (s u : Sign) : Type 0 where
+  pub image : s ≡ image_value w (value_of m) (i ∷ j ∷ length w ∷ [])
+  pub own : u ≡ value_of m (i ∷ j ∷ length w ∷ [])
+
+module _ (m : SignMap) (w : List SignedElement) (begun : IsBeginning m.elements w) (few : length w ≤ m.elements)
+    (i j k : ℕ) (a b c : SignedElement) (qa : a ≡ signed_at w i) (qb : b ≡ signed_at w j) (qc : c ≡ signed_at w k)
+    (qk : k ≡ length w) (low : 1 ≤ i) (ij : i < j) (jk : j < k) where
+  pub old_triple : IsElement m.elements a.element × IsElement m.elements b.element × IsElement m.elements c.element
+  old_triple = (
+    entry_within m.elements w begun i a qa low (omega (arith, ij, jk, qk)),
+    entry_within m.elements w begun j b qb (omega (arith, low, ij)) (omega (arith, jk, qk)),
+    entry_within m.elements w begun k c qc (omega (arith, low, ij, jk)) (omega (arith, qk)),
+  )
+
+  pub looked : (values : List Sign) → IsTableOfValues m values → (s u : Sign)
+      → s ≡ product (product (sign_of a) (product (sign_of b) (sign_of c)))
+      (at values (place_of_triple a.element b.element c.element))
+      → u ≡ at values (place_of_triple i j k) → IsLooked m w i j s u
+  looked values table s u qs qu =
+      let t = old_triple in
+      record {
+        image = qs ∙ image_triple m w i j (length w) a b c (at values (place_of_triple a.element b.element c.element))
+            qa qb (qc ∙ ap (signed_at w) qk) (table.values a.element b.element c.element t.0 t.1 t.2);
+        own = qu ∙ table.values i j k (low, omega (arith, ij, jk, qk, few)) (
+          omega (arith, low, ij),
+          omega (arith, jk, qk, few),
+        ) (omega (arith, low, ij, jk), omega (arith, qk, few))
+            ∙ ap (λ z. value_of m (i ∷ j ∷ z ∷ [])) qk;
+      }
 
 -- ---- steps
 

@@ -1,18 +1,21 @@
 //! The first signs of an image, compared with those of the chirotope.
 
-ghost use Rattle.std.specs.Prelude.{◌≡◌, ◌≤◌, ◌-◌, length, take};
+ghost use Rattle.std.specs.Prelude.{◌≡◌, ◌≤◌, ◌<◌, ◌-◌, ◌*◌, length, take};
+ghost use Rattle.om_signs.specs.Sign.{product};
+ghost use Rattle.om_signs.specs.SignVec.{at};
 ghost use Rattle.om_signs.specs.Order.{lexicographic};
 ghost use Rattle.om_subsets.specs.Subsets.{choose, IsSubsetFrom};
 ghost use Rattle.om_chirotope.specs.Map.{value_of};
-ghost use Rattle.om_symmetry.specs.Permutations.{image_value};
-ghost use Rattle.om_least.specs.Triples.{IsTableOfValues};
+ghost use Rattle.om_symmetry.specs.Permutations.{image_value, sign_of};
+ghost use Rattle.om_least.specs.Triples.{IsTableOfValues, place_of_triple};
 ghost use Rattle.om_least.specs.Beginnings.{IsBeginning, first_signs, first_image_signs};
 
 use super::beginning::{Beginning, ROOM};
 use super::values::value_at;
 use om_chirotope::Chirotope;
-use om_signs::Sign;
+use om_signs::{MAX_PLACES, Sign};
 use om_subsets::Subset;
+use om_symmetry::SignedElement;
 use std::cmp::Ordering;
 
 /// How the first signs of the images under the signed permutations that begin with these entries compare with those of
@@ -35,19 +38,28 @@ pub(crate) fn compared(chi: &Chirotope, values: &[Sign], beginning: &Beginning) 
     let c = beginning.at(last);
     for j in 2..last {
         let b = beginning.at(j);
-        let turn = b.sign().times(c.sign());
         for i in 1..j {
-            let a = beginning.at(i);
-            let value = value_at(values, a.element, b.element, c.element);
-            let image = a.sign().times(turn).times(value);
+            let image = triple_image(values, beginning.at(i), b, c);
             match image.cmp(&value_at(values, i, j, last)) {
-                Ordering::Less => return Ordering::Less,
-                Ordering::Greater => return Ordering::Greater,
                 Ordering::Equal => {}
+                order => return order,
             }
         }
     }
     Ordering::Equal
+}
+
+/// The sign of a triple in the images, by what stands at its places: that of the old elements, with their signs.
+fn triple_image(values: &[Sign], a: SignedElement, b: SignedElement, c: SignedElement) -> Sign
+    requires whole { length values.now ≡ MAX_PLACES * MAX_PLACES * MAX_PLACES }
+    requires a { a.element < MAX_PLACES }
+    requires b { b.element < MAX_PLACES }
+    requires c { c.element < MAX_PLACES }
+    ensures { result ≡ product (product (sign_of a) (product (sign_of b) (sign_of c)))
+        (at values.now (place_of_triple a.element b.element c.element)) }
+{
+    let value = value_at(values, a.element, b.element, c.element);
+    a.sign().times(b.sign().times(c.sign())).times(value)
 }
 
 /// The same in any rank, with the values of the chirotope.
@@ -65,9 +77,8 @@ fn compared_by_sets(chi: &Chirotope, beginning: &Beginning) -> Ordering
     for place in Subset::choose(last - 1, rank)..Subset::choose(last, rank) {
         let s = Subset::unrank_revlex(place, rank, elements);
         match image_sign(chi, beginning, s).cmp(&chi.at(s)) {
-            Ordering::Less => return Ordering::Less,
-            Ordering::Greater => return Ordering::Greater,
             Ordering::Equal => {}
+            order => return order,
         }
     }
     Ordering::Equal

@@ -1,7 +1,9 @@
 //! The search for an image that comes before a chirotope: over the signed permutations, entry by entry.
 
-ghost use Rattle.std.specs.Prelude.{◌≡◌, ◌≤◌, ◌-◌, ◌↔◌, length, take, IsTrue, IfSome, IfNone};
-ghost use Rattle.om_subsets.specs.Subsets.{choose};
+ghost use Rattle.std.specs.Prelude.{◌≡◌, ◌≤◌, ◌<◌, ◌↔◌, ◌∷◌, [], ◌++◌, length, IsTrue, IfSome, IfNone};
+ghost use Rattle.om_laws.specs.Members.{IsMember};
+ghost use Rattle.om_laws.specs.Sorting.{IsElement};
+ghost use Rattle.om_symmetry.specs.Permutations.{elements_of};
 ghost use Rattle.om_least.specs.Least.{IsLeast};
 ghost use Rattle.om_least.specs.Triples.{IsTableOfValues};
 ghost use Rattle.om_least.specs.Beginnings.{IsBeginning, IsLeastBehind, BeginsBefore, first_signs, first_image_signs};
@@ -10,7 +12,7 @@ use super::beginning::Beginning;
 use super::comparing::compared;
 use super::values::{TRIPLES, values_of};
 use om_chirotope::Chirotope;
-use om_signs::Sign;
+use om_signs::{MAX_PLACES, Sign};
 use om_symmetry::SignedElement;
 use std::cmp::Ordering;
 
@@ -63,14 +65,14 @@ fn lesser_behind(chi: &Chirotope, values: &[Sign], beginning: &Beginning) -> Opt
                 element,
                 negated: false,
             };
-            if let Some(lesser) = lesser_with(chi, values, beginning.followed_by(plain)) {
+            if let Some(lesser) = lesser_with(chi, values, beginning, plain) {
                 return Some(lesser);
             }
             let negative = SignedElement {
                 element,
                 negated: true,
             };
-            if let Some(lesser) = lesser_with(chi, values, beginning.followed_by(negative)) {
+            if let Some(lesser) = lesser_with(chi, values, beginning, negative) {
                 return Some(lesser);
             }
         }
@@ -79,22 +81,28 @@ fn lesser_behind(chi: &Chirotope, values: &[Sign], beginning: &Beginning) -> Opt
 }
 
 /// The first entries of signed permutations under which the image comes before the chirotope, beginning with these
-/// entries, or None if there are none. The first signs of an image that begins so, but those of the sets with the last
-/// of these elements, are those of the chirotope.
+/// entries and this one behind them, or None if there are none.
 #[cycle(walk)]
-fn lesser_with(chi: &Chirotope, values: &[Sign], beginning: Beginning) -> Option<Beginning>
-    requires begun { IsBeginning chi.now.elements beginning }
-    requires some { 1 ≤ length beginning }
-    requires few { length beginning ≤ chi.now.elements }
-    requires tied { take (choose (length beginning - 1) chi.now.rank) (first_image_signs chi.now beginning)
-        ≡ take (choose (length beginning - 1) chi.now.rank) (first_signs chi.now (length beginning)) }
+fn lesser_with(
+    chi: &Chirotope,
+    values: &[Sign],
+    beginning: &Beginning,
+    a: SignedElement,
+) -> Option<Beginning>
+    requires begun { IsBeginning chi.now.elements beginning.now }
+    requires few { length beginning.now < chi.now.elements }
+    requires room { length beginning.now < MAX_PLACES }
+    requires tied { first_image_signs chi.now beginning.now ≡ first_signs chi.now (length beginning.now) }
+    requires element { IsElement chi.now.elements a.element }
+    requires off { IsMember a.element (elements_of beginning.now) → ⊥ }
     requires table { chi.now.rank ≡ 3 → IsTableOfValues chi.now values.now }
     ensures before { IfSome result (BeginsBefore chi.now) }
-    ensures least { IfNone result (IsLeastBehind chi.now beginning) }
+    ensures least { IfNone result (IsLeastBehind chi.now (beginning.now ++ a ∷ [])) }
 {
-    match compared(chi, values, &beginning) {
-        Ordering::Less => Some(beginning),
+    let longer = beginning.followed_by(a);
+    match compared(chi, values, &longer) {
+        Ordering::Less => Some(longer),
         Ordering::Greater => None,
-        Ordering::Equal => lesser_behind(chi, values, &beginning),
+        Ordering::Equal => lesser_behind(chi, values, &longer),
     }
 }

@@ -3,8 +3,8 @@ use Rattle.std.specs.Prelude.{IfSome}
 use Rattle.std.proofs.Math.Nat.{le_refl}
 use Rattle.om_reply.specs.Statuses.{IsAnswered}
 use Rattle.om_classification.specs.Runs.{HasRun}
-use Rattle.om_classification.proofs.Reached.{takes_none}
-use Rattle.om_classification.proofs.Results.{same_ok, no_value}
+use Rattle.om_port.proofs.Taking.{takes_none}
+use Rattle.om_signs.proofs.Results.{ok-injective, err-ne-ok}
 use Rattle.om_classification.proofs.Written.{usage_not_done, usage_not_read}
 use Rattle.om_classification.proofs.run.classify.Goals as goal
 
@@ -12,7 +12,7 @@ pub returns-in-Ok-clause-answer : goal.returns-in-Ok-clause-answer
 returns-in-Ok-clause-answer g c = λ r names.
     subst (λ x. IfSome (g.S.Source.left c.args.source.now) (λ bytes. HasRun x bytes c.read_documents.result
     (g.K.Sink.taken c.args.sink.now) (g.K.Sink.taken c.read_documents.new.sink)))
-    (same_ok _ _ ((c.in-Ok.ensures.request r).1 names)) c.read_documents.ensures.answer
+    (ok-injective _ _ ((c.in-Ok.ensures.request r).1 names)) c.read_documents.ensures.answer
 
 pub returns-in-Ok-clause-usage : goal.returns-in-Ok-clause-usage
 returns-in-Ok-clause-usage g c =
@@ -34,7 +34,7 @@ pub returns-in-Ok-clause-only : goal.returns-in-Ok-clause-only
 returns-in-Ok-clause-only g c = λ is asked. c.read_documents.ensures.no_usage is
 
 pub returns-in-Err-clause-answer : goal.returns-in-Err-clause-answer
-returns-in-Err-clause-answer g c = λ r names. absurd (no_value _ r ((c.in-Err.ensures.request r).1 names))
+returns-in-Err-clause-answer g c = λ r names. absurd (err-ne-ok _ r ((c.in-Err.ensures.request r).1 names))
 
 pub returns-in-Err-clause-usage : goal.returns-in-Err-clause-usage
 returns-in-Err-clause-usage g c = λ none. c.write_usage.ensures.no_other
@@ -51,7 +51,7 @@ returns-in-Err-clause-usage_cut g c =
     λ none cut. (c.in-Err.usage.word, (c.in-Err.ensures.usage, c.write_usage.ensures.cut cut))
 
 pub returns-in-Err-clause-only : goal.returns-in-Err-clause-only
-returns-in-Err-clause-only g c = λ is asked. no_value _ asked.0 ((c.in-Err.ensures.request asked.0).1 asked.1)
+returns-in-Err-clause-only g c = λ is asked. err-ne-ok _ asked.0 ((c.in-Err.ensures.request asked.0).1 asked.1)
 
 pub returns-in-Err-clause-read : goal.returns-in-Err-clause-read
 returns-in-Err-clause-read g c = λ fault. absurd (usage_not_read _ c.write_usage.ensures.no_other fault)

@@ -1,6 +1,6 @@
 use Rattle.std.proofs.Common.{option_map, subst}
 use Rattle.om_classification.specs.Answers.{IsGoing}
-use Rattle.om_classification.proofs.Bytes.{made_byte}
+use Rattle.om_pieces.proofs.Steps.{made_byte}
 use Rattle.om_classification.proofs.Written.{going_first}
 use Rattle.om_pieces.specs.Making.{made}
 use Rattle.om_classification.proofs.run.take_byte.Goals as goal

@@ -1,7 +1,7 @@
 use Rattle.std.proofs.Common.{arith}
 use Rattle.std.proofs.Math.Nat.{le_refl, le_trans}
 use Rattle.om_classification.proofs.Bytes.{loop_going, loop_outcome, loop_ends}
-use Rattle.om_classification.proofs.Reached.{rose_before}
+use Rattle.om_port.proofs.Taking.{rose_before}
 use Rattle.om_classification.proofs.run.take_bytes.Goals as goal
 
 pub loop-byte-init : goal.loop-byte-init

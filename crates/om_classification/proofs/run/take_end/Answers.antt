@@ -2,8 +2,8 @@ use Rattle.std.proofs.Common.{[], option_map, refl, sym, subst, append-nil}
 use Rattle.std.proofs.Math.Nat.{le_trans}
 use Rattle.om_pieces.specs.Making.{option_list, rest_of}
 use Rattle.om_classification.specs.Answers.{IsGoing, IsOutcome}
-use Rattle.om_classification.proofs.Bytes.{made_end}
-use Rattle.om_classification.proofs.Reached.{rose_before}
+use Rattle.om_pieces.proofs.Steps.{made_end}
+use Rattle.om_port.proofs.Taking.{rose_before}
 use Rattle.om_classification.proofs.Written.{stopped}
 use Rattle.om_classification.proofs.run.take_end.Goals as goal
 

@@ -1,103 +1,84 @@
-use Rattle.std.proofs.Common.{◌≡◌, ◌<◌, ◌∙◌, length, sym, subst, inl, inr, arith, true, false}
-use Rattle.std.proofs.lemmas.Bool.{false≢true, cases_lt}
+use Rattle.std.proofs.Common.{ℕ, ◌≡◌, ◌∙◌, length, sym, subst, inl, inr, arith}
+use Rattle.std.proofs.lemmas.Bool.{cases_lt}
 use Rattle.om_signs.specs.OrderLaws.{same_from_order}
 use Rattle.om_laws.specs.Members.{IsMember}
 use Rattle.om_symmetry.specs.Permutations.{elements_of}
-use Rattle.om_symmetry.specs.declared.signed_element.SignedElement.{SignedElement}
 use Rattle.om_least.specs.Beginnings.{IsLeastBehind, first_signs, first_image_signs}
-use Rattle.om_least.proofs.Entries.{IsTried, passed_over, least_at_end, least_by_entries, comparable, longer}
+use Rattle.om_least.proofs.Entries.{IsTried, IsComparable, passed_over, least_at_end, least_by_entries}
+use Rattle.om_least.proofs.Entries.{comparable, longer, next_requires}
 use Rattle.om_least.proofs.search.+walk.Goals as goal
-use Rattle.om_least.proofs.search.+walk.Goals.{lesser_behind-else-not-has}
+use Rattle.om_least.proofs.search.+walk.Goals.{lesser_behind-else-not-has, lesser_with-After-followed_by-longer}
 use Rattle.om_least.proofs.search.+walk.Goals.{lesser_behind-then-not-has+in_default+in_default-lesser_with}
 
 pub lesser_behind-returns-then-len-elements-clause-least : goal.lesser_behind-returns-then-len-elements-clause-least
 lesser_behind-returns-then-len-elements-clause-least t c =
-    let m = c.args.chi.now in
-    let w = c.args.beginning.now in
-    let all : length w ≡ m.elements = sym c.len.ensures.value ∙ c.if-len-elements.true
-    ∙ c.elements-elements.ensures.value in
-    least_at_end m w all c.requires.tied
+    least_at_end c.args.chi.now c.args.beginning.now
+    (sym c.len.ensures.value ∙ c.if-len-elements.true ∙ c.elements-elements.ensures.value) c.requires.tied
 
 pub lesser_behind-lesser_with-requires : goal.lesser_behind-lesser_with-requires
 lesser_behind-lesser_with-requires t c =
-    let m = c.args.chi.now in
-    let w = c.args.beginning.now in
-    let a : SignedElement = record { element = c.loop-element.element; negated = false } in
-    let value = c.elements-elements.ensures.value in
-    let size = c.len.ensures.value in
-    let other = c.if-len-elements.false in
-    let few = c.requires.few in
-    let test = c.loop-element-test.true in
-    let low = c.loop-element.auto.element in
-    let d = c.decreases in
-    let l : length w < m.elements = omega (arith, value, size, other, few) in
-    let more = longer m w c.followed_by.result a c.followed_by.ensures in
-    let r = comparable m w c.followed_by.result a c.followed_by.ensures l c.requires.begun c.requires.tied
-    (low, omega (arith, value, test)) (λ h. false≢true (sym c.if-not-has.true ∙ c.has.ensures.1 h)) in
-    (omega (arith, d, more, l), (r.begun, (r.some, (r.few, (r.tied, c.requires.table)))))
+    let r = next_requires c.args.chi.now c.args.beginning.now _ _ _ _ c.elements-elements.ensures.value
+    c.elements-elements.ensures.high c.len.ensures.value c.if-len-elements.false c.requires.few
+    c.loop-element.auto.element c.loop-element-test.true c.if-not-has.true c.has.ensures.1 in
+    let tied = c.requires.tied in
+    (omega (arith, c.decreases, r.0), (c.requires.begun, (r.0, (r.1, (tied, (r.2, (r.3, c.requires.table)))))))
 
 pub lesser_behind-lesser_with-requires-then-not-has : goal.lesser_behind-lesser_with-requires-then-not-has
 lesser_behind-lesser_with-requires-then-not-has t c =
-    let m = c.args.chi.now in
-    let w = c.args.beginning.now in
-    let a : SignedElement = record { element = c.loop-element.element; negated = true } in
-    let value = c.elements-elements.ensures.value in
-    let size = c.len.ensures.value in
-    let other = c.if-len-elements.false in
-    let few = c.requires.few in
-    let test = c.loop-element-test.true in
-    let low = c.loop-element.auto.element in
-    let d = c.decreases in
-    let l : length w < m.elements = omega (arith, value, size, other, few) in
-    let more = longer m w c.followed_by-then-not-has.result a c.followed_by-then-not-has.ensures in
-    let r = comparable m w c.followed_by-then-not-has.result a c.followed_by-then-not-has.ensures l c.requires.begun
-    c.requires.tied (low, omega (arith, value, test))
-    (λ h. false≢true (sym c.if-not-has.true ∙ c.has.ensures.1 h)) in
-    (omega (arith, d, more, l), (r.begun, (r.some, (r.few, (r.tied, c.requires.table)))))
+    let r = next_requires c.args.chi.now c.args.beginning.now _ _ _ _ c.elements-elements.ensures.value
+    c.elements-elements.ensures.high c.len.ensures.value c.if-len-elements.false c.requires.few
+    c.loop-element.auto.element c.loop-element-test.true c.if-not-has.true c.has.ensures.1 in
+    let tied = c.requires.tied in
+    (omega (arith, c.decreases, r.0), (c.requires.begun, (r.0, (r.1, (tied, (r.2, (r.3, c.requires.table)))))))
 
 pub lesser_behind-loop-element-preserved : goal.lesser_behind-loop-element-preserved
 lesser_behind-loop-element-preserved t c = λ e i lt off.
-    let m = c.args.chi.now in
-    let w = c.args.beginning.now in
     elim (cases_lt e c.loop-element.element) [
       | inl before ↦ c.loop-element.invariant e i before off
       | inr ge ↦
           let here : c.loop-element.element ≡ e = omega (arith, lt, ge) in
           elim c.if-not-has.branch [
             | lesser_behind-then-not-has+in_default+in_default-lesser_with b ↦
-                subst (IsTried m w) here
-                (record {
-                  plain = subst (IsLeastBehind m) b.followed_by.ensures b.in_default.ensures.least;
-                  negative = subst (IsLeastBehind m) b.followed_by-then-not-has.ensures
-                      b.in_default-lesser_with.ensures.least;
-                })
+                subst (IsTried c.args.chi.now c.args.beginning.now) here
+                (record { plain = b.in_default.ensures.least; negative = b.in_default-lesser_with.ensures.least })
             | lesser_behind-else-not-has b ↦
-                let listed = c.has.ensures.0 b.if-not-has.false in
-                absurd (subst (λ f. IsMember f (elements_of w) → ⊥) (sym here) off listed)
+                absurd (off (subst (λ f. IsMember f (elements_of c.args.beginning.now)) here
+                (c.has.ensures.0 b.if-not-has.false)))
           ]
     ]
 
 pub lesser_behind-returns-clause-least : goal.lesser_behind-returns-clause-least
 lesser_behind-returns-clause-least t c =
-    let m = c.args.chi.now in
-    let w = c.args.beginning.now in
-    let value = c.elements-elements.ensures.value in
-    let size = c.len.ensures.value in
-    let other = c.if-len-elements.false in
-    let few = c.requires.few in
-    let over = c.loop-element-test.false in
-    let l : length w < m.elements = omega (arith, value, size, other, few) in
-    least_by_entries m w l
-    (λ e i off. let high = i.1 in c.loop-element.invariant e i (omega (arith, value, over, high)) off)
+    least_by_entries c.args.chi.now c.args.beginning.now
+    (omega (arith, c.elements-elements.ensures.value, c.len.ensures.value, c.if-len-elements.false, c.requires.few))
+    (λ e i off. c.loop-element.invariant e i
+    (omega (arith, c.elements-elements.ensures.value, c.loop-element-test.false, i.1)) off)
+
+next : (t : ℕ) (c : lesser_with-After-followed_by-longer t) → IsComparable c.args.chi.now c.followed_by-longer.result
+next t c = comparable c.args.chi.now c.args.beginning.now c.followed_by-longer.result c.args.a
+    c.followed_by-longer.ensures c.requires.few c.requires.begun c.requires.tied c.requires.element c.requires.off
+
+pub lesser_with-compared-requires : goal.lesser_with-compared-requires
+lesser_with-compared-requires t c =
+    let r = next t (goal.at.lesser_with-compared-requires t c).After-followed_by-longer in
+    record { begun = r.begun; some = r.some; few = r.few; tied = r.tied; table = c.requires.table }
 
 pub lesser_with-lesser_behind-requires : goal.lesser_with-lesser_behind-requires
 lesser_with-lesser_behind-requires t c =
     let m = c.args.chi.now in
-    let w = c.args.beginning in
-    let d = c.decreases in
-    let tied = same_from_order (first_image_signs m w) (first_signs m (length w)) (sym c.in-Equal.ensures) in
-    (omega (arith, d), (c.requires.begun, (c.requires.few, (tied, c.requires.table))))
+    let u = c.followed_by-longer.result in
+    let more = longer m c.args.beginning.now u c.args.a c.followed_by-longer.ensures in
+    let r = next t (goal.at.lesser_with-lesser_behind-requires t c).After-followed_by-longer in
+    let tied = same_from_order (first_image_signs m u) (first_signs m (length u)) (sym c.in-Equal.ensures) in
+    (omega (arith, c.decreases, more, c.requires.few), (r.begun, (r.few, (tied, c.requires.table))))
+
+pub lesser_with-returns-in-Less-clause-before : goal.lesser_with-returns-in-Less-clause-before
+lesser_with-returns-in-Less-clause-before t c =
+    let r = next t (goal.at.lesser_with-returns-in-Less-clause-before t c).After-followed_by-longer in
+    record { begun = r.begun; few = r.few; before = sym c.in-Less.ensures }
 
 pub lesser_with-returns-in-Greater-clause-least : goal.lesser_with-returns-in-Greater-clause-least
 lesser_with-returns-in-Greater-clause-least t c =
-    passed_over c.args.chi.now c.args.beginning c.requires.few (sym c.in-Greater.ensures)
+    let r = next t (goal.at.lesser_with-returns-in-Greater-clause-least t c).After-followed_by-longer in
+    subst (IsLeastBehind c.args.chi.now) c.followed_by-longer.ensures
+    (passed_over c.args.chi.now c.followed_by-longer.result r.few (sym c.in-Greater.ensures))

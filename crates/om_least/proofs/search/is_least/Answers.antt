@@ -1,4 +1,5 @@
-use Rattle.std.proofs.Common.{◌≡◌, ◌↔◌, List, Option, Some, None, Bool, true, false, not, IsTrue, IfSome, IfNone, is_some}
+use Rattle.std.proofs.Common.{◌≡◌, ◌↔◌, List, Option, Some, None, Bool, true, false, not, IsTrue}
+use Rattle.std.proofs.Common.{IfSome, IfNone, is_some}
 use Rattle.std.proofs.Common.{refl}
 use Rattle.std.proofs.lemmas.Bool.{false≢true}
 use Rattle.om_chirotope.specs.Map.{SignMap}

@@ -31,28 +31,17 @@ returns-then-not-begins_next-clause-step g c =
 
 pub invariant_of-self-in-Done : goal.invariant_of-self-in-Done
 invariant_of-self-in-Done g c =
-    let h = closing_done _ _ _ _ _ c.in_ok-step.ensures.closing c.in-Done.is in (
-      c.self.invariant.0 ∙ sym h.asked,
-      omega (
-        arith,
-        h.next,
-        c.begins_next.ensures.next c.if-not-begins_next.false,
-        c.begins_next.ensures.below c.if-not-begins_next.false,
-        c.elements-elements.ensures.high,
-        c.elements-current.ensures.value,
-      ),
-    )
+    let h = closing_done _ _ _ _ _ c.in_ok-step.ensures.closing c.in-Done.is in
+    let next = c.begins_next.ensures.next c.if-not-begins_next.false in
+    let below = c.begins_next.ensures.below c.if-not-begins_next.false in
+    let e = c.elements-elements.ensures.high in
+    (c.self.invariant.0 ∙ sym h.asked, omega (arith, h.next, next, below, e, c.elements-current.ensures.value))
 
 pub join-requires-in-Done-clause-elements : goal.join-requires-in-Done-clause-elements
 join-requires-in-Done-clause-elements g c =
     let h = closing_done _ _ _ _ _ c.in_ok-step.ensures.closing c.in-Done.is in
-    omega (
-      arith,
-      h.next,
-      c.begins_next.ensures.next c.if-not-begins_next.false,
-      c.elements-elements.ensures.value,
-      c.elements-current.ensures.value,
-    )
+    let next = c.begins_next.ensures.next c.if-not-begins_next.false in
+    omega (arith, h.next, next, c.elements-elements.ensures.value, c.elements-current.ensures.value)
 
 pub invariant_of-self-in_default : goal.invariant_of-self-in_default
 invariant_of-self-in_default g c =
@@ -74,6 +63,7 @@ returns-in-Done-clause-step g c =
 pub returns-in_default : goal.returns-in_default
 returns-in_default g c =
     let s : State = record { chain = c.self.inside.chain; documents = c.self.inside.documents } in
+    let next = c.begins_next.ensures.next c.if-not-begins_next.false in
     record {
       replied = closing_replied _ _ _ _ _ c.in_ok-step.ensures.closing;
       step = λ r all text piece left d b.
@@ -81,10 +71,6 @@ returns-in_default g c =
           (closing_stops c.self.inside.asked s c.close.new.chain _ _ c.in_ok-step.ensures.closing c.in_default.not-Done
           r all text (piece ∷ left)
           (subst (λ (x : State). IsUnderway r all text x (piece ∷ left)) (sym c.self.view_is) b.underway)
-          (before piece left c.args.chi.now d (omega (
-            arith,
-            c.begins_next.ensures.next c.if-not-begins_next.false,
-            c.elements-elements.ensures.value,
-            c.elements-current.ensures.value,
-          ))));
+          (before piece left c.args.chi.now d
+          (omega (arith, next, c.elements-elements.ensures.value, c.elements-current.ensures.value))));
     }
