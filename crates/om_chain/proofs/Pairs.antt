@@ -1,23 +1,20 @@
 -- Two elements in some basis, and the pairs and sets in their order.
 --
 -- Main results: two elements are in some basis exactly if they have rank 2 (pair_rank); a map without a sign zero is
--- uniform (uniform_from), and the first set with the sign zero (first_at); a map behind the last of a list (behind_by).
-use Rattle.std.proofs.Common.{ℕ, ◌≡◌, ◌≢◌, ◌+◌, ◌<◌, ◌≤◌, ◌↔◌, List, [], ◌∷◌, length, sym, ap, subst, ◌∙◌, inl, inr}
-use Rattle.std.proofs.Common.{refl, ◌-◌, Bool, true, false, IsTrue, arith}
-use denote.Enum.Bare.{sameb}
-use Rattle.std.proofs.lemmas.Bool.{cases_lt, ne_eqb, lt-ltb, false≢true}
+-- uniform (uniform_from), and the first set with the sign zero (first_found); a map behind the last of a list
+-- (behind_by).
+use Rattle.std.proofs.Common.{ℕ, ◌≡◌, ◌≢◌, ◌<◌, ◌≤◌, ◌↔◌, List, [], ◌∷◌, length, sym, ap, subst, ◌∙◌, inl, inr}
+use Rattle.std.proofs.Common.{refl, ◌-◌, Bool, IsTrue, true≢false, Option, Some, None, IsNone, arith}
+use Rattle.std.proofs.lemmas.Bool.{ne_eqb, lt-ltb}
 use Rattle.std.proofs.lemmas.List.{get_or_default}
-use Rattle.om_signs.specs.declared.sign.Sign.{Sign}
-use Rattle.om_signs.specs.contracts.sign.Sign.{the_type}
-use Rattle.om_signs.proofs.SignLaws.{minus_nonzero, plus_nonzero}
-use Rattle.om_signs.specs.declared.sign.Sign.TheVariants.{Minus, Zero, Plus}
-use Rattle.om_signs.specs.SignVec.{at}
-use Rattle.om_subsets.specs.Subsets.{IsSubsetFrom, IsMember, with_element, choose, rank_of}
+use Rattle.om_signs.specs.declared.sign.Sign.TheVariants.{Zero}
+use Rattle.om_subsets.specs.Subsets.{IsSubsetFrom, IsMember, with_element}
 use Rattle.om_subsets.specs.Members.{Chosen}
-use Rattle.om_subsets.proofs.Order.{lexicographic, rank_from-lt}
+use Rattle.om_subsets.proofs.SetChains.{FindsFirst, IsFirstSet}
 use Rattle.om_subsets.proofs.Statements.{subset_is_increasing}
 use Rattle.om_chirotope.specs.Map.{SignMap, chi_of}
 use Rattle.om_matroid.specs.Bases.{IsIndependent, IsIndependentPart, IsRankOf}
+use Rattle.om_localize.proofs.SignatureCircles.{pair_list}
 use Rattle.om_covers.specs.Classes.{IsUniform}
 use Rattle.om_least.specs.Least.{IsBefore, map_at, no_map}
 use Rattle.om_levels.specs.Levels.{IsMemberAt}
@@ -29,18 +26,6 @@ pub pair_elements : (e f : ℕ) → e < f → with_element e (f ∷ []) ≡ e �
 pair_elements e f lt =
     let ne : e ≢ f = omega arith in
     rw (ne_eqb e f ne, lt-ltb e f lt) refl
-
-pair_subset : (n e f : ℕ) → 1 ≤ e → e < f → f ≤ n → IsSubsetFrom 1 n (e ∷ f ∷ [])
-pair_subset n e f low lt high = (subset_is_increasing n (e ∷ f ∷ [])).1 (
-  (lt, tt),
-  λ g k. elim k [
-    | inl q ↦ (omega arith, omega arith)
-    | inr j ↦ elim j [
-      | inl q ↦ (omega arith, omega arith)
-      | inr none ↦ absurd none
-    ]
-  ],
-)
 
 -- an increasing list of two and more of two numbers has both
 both_in : (n e f x y : ℕ) (t : List ℕ) → e < f → IsSubsetFrom 1 n (x ∷ y ∷ t) → IsMember x (e ∷ f ∷ [])
@@ -91,7 +76,7 @@ module _ (m : SignMap) (e f : ℕ) (low : 1 ≤ e) (lt : e < f) (high : f ≤ m.
       let r : IsRankOf m (e ∷ f ∷ []) k = subst (λ u. IsRankOf m u k) q h in (
         λ two. (let size = r.reached.2 in from_part r.reached.0 r.reached.1 (omega arith)),
         λ independent. r.greatest (e ∷ f ∷ []) (record {
-          list = pair_subset m.elements e f low lt high;
+          list = pair_list m.elements e f low lt high;
           part = λ g j. j;
           independent = independent;
         }),
@@ -99,41 +84,23 @@ module _ (m : SignMap) (e f : ℕ) (low : 1 ≤ e) (lt : e < f) (high : f ≤ m.
 
 -- ---- sets with the sign zero
 
--- what a test of a sign against zero says
-pub zero_tested : (s : Sign) (r : Bool) → r ≡ sameb the_type s Zero → (r ≡ true → s ≡ Zero) × (r ≡ false → s ≡ Zero → ⊥)
-zero_tested Minus r e = (λ t. absurd (false≢true (sym e ∙ t)), λ _. minus_nonzero)
-zero_tested Zero r e = (λ _. refl, λ f. absurd (false≢true (sym f ∙ e)))
-zero_tested Plus r e = (λ t. absurd (false≢true (sym e ∙ t)), λ _. plus_nonzero)
+-- the search for the first set with the sign zero, by its result
+abbrev pub FindsZero : SignMap → Option Chosen → Type 0
+FindsZero m = FindsFirst m.elements m.rank (λ xs. chi_of m xs ≡ Zero) (λ xs. chi_of m xs ≡ Zero → ⊥)
 
--- no set before this place has the sign zero
-abbrev pub AreNonzeroBefore : SignMap → ℕ → Type 0
-AreNonzeroBefore m place = (k : ℕ) → k < place → at m.signs k ≡ Zero → ⊥
+-- where none is found, the map is uniform
+pub uniform_from : (m : SignMap) (found : Option Chosen) → FindsZero m found → IsNone found → IsUniform m
+uniform_from m None h none = h.none
+uniform_from m (Some set) h none = absurd (true≢false none)
 
-pub nonzero_more : (m : SignMap) (place : ℕ) → AreNonzeroBefore m place → (at m.signs place ≡ Zero → ⊥)
-    → AreNonzeroBefore m (place + 1)
-nonzero_more m place h here k lt z = elim (cases_lt k place) [
-  | inl less ↦ h k less z
-  | inr ge ↦
-      let e : k ≡ place = omega arith in
-      here (subst (λ j. at m.signs j ≡ Zero) e z)
-]
-
-pub uniform_from : (m : SignMap) (place : ℕ) → choose m.elements m.rank ≤ place → AreNonzeroBefore m place → IsUniform m
-uniform_from m place all h xs list size z =
-    let small = rank_from-lt 1 m.elements xs list in
-    let most : choose m.elements (length xs) ≡ choose m.elements m.rank = ap (choose m.elements) size in
-    h (rank_of m.elements xs) (omega arith) z
-
-pub first_at : (m : SignMap) (place : ℕ) (set : Chosen) → set.n ≡ m.elements → length set.elements ≡ m.rank
-    → IsSubsetFrom 1 m.elements set.elements → rank_of m.elements set.elements ≡ place → chi_of m set.elements ≡ Zero
-    → AreNonzeroBefore m place → IsFirstZero m set
-first_at m place set n size list at_place zero h = record {
-  n = n;
-  size = size;
-  zero = zero;
-  first = λ xs sub len before z.
-      let less = (lexicographic 1 m.elements xs set.elements sub list (len ∙ sym size)).0 before in
-      h (rank_of m.elements xs) (omega arith) z;
+-- what is found is the first
+pub first_found : (m : SignMap) (set : Chosen)
+    → IsFirstSet m.elements m.rank (λ xs. chi_of m xs ≡ Zero) (λ xs. chi_of m xs ≡ Zero → ⊥) set → IsFirstZero m set
+first_found m set h = record {
+  n = h.set.n_is;
+  size = h.set.size;
+  zero = h.yes;
+  first = λ xs list size before. h.earlier xs list size before;
 }
 
 -- ---- the last map of a list

@@ -47,14 +47,7 @@ fn first_zero(chi: &Chirotope) -> Option<Subset>
     ensures none { IsNone result → IsUniform chi.now }
     ensures some { IfSome result (IsFirstZero chi.now) }
 {
-    let (rank, elements) = (chi.rank(), chi.elements());
-    for place in 0..Subset::choose(elements, rank) {
-        let set = Subset::unrank(place, rank, elements);
-        if chi.at(set) == Sign::Zero {
-            return Some(set);
-        }
-    }
-    None
+    Subset::all(chi.rank(), chi.elements()).find(|set| chi.at(*set) == Sign::Zero)
 }
 
 /// Why a chirotope of rank 3 isn't of a family, or None if it is.

@@ -166,9 +166,8 @@ fn are_apart(
 #[test]
 fn between_classes(rt: HostRuntime) {
     let alloc = rt.alloc();
-    for i in 0..CLASSES.len() {
-        for k in 0..i {
-            let ((n, text), (m, other)) = (CLASSES[i], CLASSES[k]);
+    for (i, &(n, text)) in CLASSES.iter().enumerate() {
+        for &(m, other) in &CLASSES[..i] {
             let apart = are_apart(
                 alloc,
                 chirotope_of(&rt, alloc, 3, n, text),

@@ -1,6 +1,8 @@
-//! The tests of the public calls of om_symmetry, om_label, om_covers, om_least and om_levels.
+//! The tests of the public calls of om_symmetry, om_label, om_covers, om_least, om_levels and om_chain.
 #![tactic(auto)]
 
+#[cfg(test)]
+mod chains;
 #[cfg(test)]
 mod growing;
 #[cfg(test)]

@@ -37,6 +37,7 @@ pair_independent m simple e f he hf d = elim (cases_lt e f) [
 ]
 
 module _ (m : SignMap) (w : List SignedElement) (p : IsSignedPermutation m.elements w) where
+  -- images of simple maps are simple
   pub acted_simple : IsSimple m → IsSimple (acted w m)
   acted_simple simple e f low lt high =
       let he : IsElement m.elements e = (low, omega arith) in
@@ -47,6 +48,7 @@ module _ (m : SignMap) (w : List SignedElement) (p : IsSignedPermutation m.eleme
       (pair_independent m simple (element_at w e) (element_at w f) (element_within m.elements w p e he)
       (element_within m.elements w p f hf) apart)
 
+  -- images of uniform maps are uniform
   pub acted_uniform : IsUniform m → IsUniform (acted w m)
   acted_uniform uniform xs h l z =
       let t = to_tuple m.elements m.rank xs h l in

@@ -38,6 +38,7 @@ triangle_basis = record {
   nonzero = λ z. plus_nonzero (sym triangle_value ∙ z);
 }
 
+-- the triangle is a chirotope
 pub triangle_axioms : IsChirotope triangle
 triangle_axioms = record {
   whole = record { part = omega arith; whole = refl };
@@ -57,6 +58,7 @@ one_of_three e low high = elim (cases_eq e 1) [
   ]
 ]
 
+-- every two of its elements are together in its basis
 pub triangle_simple : IsSimple triangle
 triangle_simple e f low lt high = (
   1 ∷ 2 ∷ 3 ∷ [],
@@ -100,6 +102,7 @@ module _ (m : SignMap) (om : IsChirotope m) (r : m.rank ≡ 3) (e : m.elements �
   from_signs (s ∷ []) l q = from_sign s q
   from_signs (s ∷ t ∷ signs) l q = absurd (omega arith)
 
+  -- a chirotope of rank 3 on three elements is isomorphic to the triangle
   pub to_triangle : AreIsomorphic m triangle
   to_triangle = from_signs m.signs count refl
 

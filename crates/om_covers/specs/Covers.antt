@@ -1,10 +1,11 @@
 -- The extensions by which a complete list on n elements leads to one on n + 1.
 --
 -- Reference: Björner, Las Vergnas, Sturmfels, White and Ziegler, Oriented Matroids, chapter 7.
-use Rattle.std.specs.Prelude.{ℕ, ◌≡◌, ◌≢◌, ◌+◌, List, [], ◌∷◌, All}
+use Rattle.std.specs.Prelude.{ℕ, ◌≡◌, ◌≢◌, ◌+◌, ◌<◌, List, [], ◌∷◌, All}
 use Rattle.std.specs.List.{Contains}
 use Rattle.om_signs.specs.declared.sign.Sign.{Sign}
 use Rattle.om_signs.specs.declared.sign.Sign.TheVariants.{Minus, Zero, Plus}
+use Rattle.om_signs.specs.SignVec.{at}
 use Rattle.om_laws.specs.Sorting.{IsElement}
 use Rattle.om_chirotope.specs.Map.{SignMap, IsLedBy}
 use Rattle.om_localize.specs.Circles.{IsZeroOn, signs_on_circle}
@@ -12,6 +13,10 @@ use Rattle.om_localize.specs.Extensions.{IsExtension, signature_of, IsSignature}
 use Rattle.om_symmetry.specs.declared.signed_element.SignedElement.{SignedElement}
 use Rattle.om_symmetry.specs.Permutations.{IsSignedPermutation, acted, AreIsomorphic}
 use Rattle.om_covers.specs.Growing.{grown}
+
+-- the first i signs are zero
+abbrev pub AreZeroBelow : List Sign → ℕ → Type 0
+AreZeroBelow signs i = (j : ℕ) → j < i → at signs j ≡ Zero
 
 -- a signature of which the first nonzero sign is minus, and that isn't zero at all pairs with some element
 pub record IsSimpleHalf (n : ℕ) (signs : List Sign) : Type 0 where

@@ -33,10 +33,8 @@ pub fn extension(
     let rank = chi.rank();
     let elements = chi.elements() + 1;
     let mut signs = List::new(alloc);
-    let mut s = Subset::first(rank, elements);
-    for _place in 0..Subset::choose(elements, rank) {
+    for s in Subset::all(rank, elements) {
         signs.push(extended_sign(chi, signature, s))?;
-        s = s.following();
     }
     Ok(Chirotope::lawful(RawMap {
         rank,

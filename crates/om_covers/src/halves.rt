@@ -1,11 +1,12 @@
 //! Which signatures are tried: one of each and its negative.
 
-ghost use Rattle.std.specs.Prelude.{◌≡◌, ◌≢◌, ◌≤◌, ◌<◌, ◌↔◌, length, IsTrue};
+ghost use Rattle.std.specs.Prelude.{◌≡◌, ◌≢◌, ◌≤◌, ◌<◌, ◌↔◌, length, IsTrue, All, MatchOption};
+ghost use Rattle.om_signs.specs.SignVec.{at};
 ghost use Rattle.om_subsets.specs.Subsets.{choose};
 ghost use Rattle.om_laws.specs.Sorting.{IsElement};
 ghost use Rattle.om_chirotope.specs.Map.{IsLedBy};
 ghost use Rattle.om_localize.specs.Circles.{IsZeroOn, signs_on_circle};
-ghost use Rattle.om_covers.specs.Covers.{IsSimpleHalf, IsUniformHalf};
+ghost use Rattle.om_covers.specs.Covers.{IsSimpleHalf, IsUniformHalf, AreZeroBelow};
 
 use om_localize::Signature;
 use om_signs::{MAX_ELEMENTS, Sign};
@@ -33,26 +34,32 @@ pub fn is_simple_half(n: u8, signature: Signature) -> bool
 pub fn is_uniform_half(signature: Signature) -> bool
     ensures { IsTrue result ↔ IsUniformHalf signature }
 {
-    for i in 0..signature.len() {
-        if signature.at(i) == Sign::Zero {
-            return false;
-        }
-    }
-    is_led_by_minus(signature)
+    is_led_by_minus(signature) && has_no_zero(signature)
+}
+
+/// Whether no sign is 0.
+fn has_no_zero(signature: Signature) -> bool
+    ensures { IsTrue result ↔ All (λ s. s ≢ Sign.Zero) signature }
+{
+    (0..signature.len()).all(|i| signature.at(i) != Sign::Zero)
+}
+
+/// The index of the first sign that isn't 0, or None if all are.
+fn first_nonzero(signature: Signature) -> Option<u8>
+    ensures { MatchOption result (AreZeroBelow signature (length signature)) (λ i. (i < length signature)
+        × (at signature i ≢ Sign.Zero) × AreZeroBelow signature i) }
+{
+    (0..signature.len()).find(|i| signature.at(*i) != Sign::Zero)
 }
 
 /// Whether the first nonzero sign is minus.
 fn is_led_by_minus(signature: Signature) -> bool
     ensures { IsTrue result ↔ IsLedBy Sign.Minus signature }
 {
-    for i in 0..signature.len() {
-        match signature.at(i) {
-            Sign::Zero => {}
-            Sign::Plus => return false,
-            Sign::Minus => return true,
-        }
+    match first_nonzero(signature) {
+        Some(i) => signature.at(i) == Sign::Minus,
+        None => false,
     }
-    false
 }
 
 /// Whether the signs of all pairs with f are 0.

@@ -2,8 +2,8 @@
 --
 -- Main results: none_covered and more_covered, the steps; passed_over and all_covered, the end;
 -- complete_next.
-use Rattle.std.proofs.Common.{ℕ, List, Bool, ◌≡◌, ◌+◌, ◌<◌, ◌≤◌, ◌⊎◌, ◌∙◌, sym, ap, subst, inl, inr, length, get_or, ⊎_elim}
-use Rattle.std.proofs.Common.{All, true, false, replicate, arith}
+use Rattle.std.proofs.Common.{ℕ, List, Bool, ◌≡◌, ◌+◌, ◌<◌, ◌≤◌, ◌⊎◌, ◌∙◌, sym, ap, subst, inl, inr, length}
+use Rattle.std.proofs.Common.{get_or, ⊎_elim, All, true, false, replicate, arith}
 use Rattle.std.specs.List.{Contains}
 use Rattle.std.proofs.lemmas.Bool.{cases_lt, false≢true}
 use Rattle.std.proofs.lemmas.List.{get_or-replicate, get_or_past, length-replicate}

@@ -21,7 +21,8 @@ same_member maps place m d a b = sym a.same ∙ get_or_default maps place m d a.
 pub record AreImagesBelow (l images : Members) (k : ℕ) : Type 0 where
   pub elements : images.elements ≡ l.elements
   pub as_many : length images.maps ≡ k
-  pub each : (place : ℕ) (m d : SignMap) → IsMemberAt l.maps place m → IsMemberAt images.maps place d → AreIsomorphic d m
+  pub each : (place : ℕ) (m d : SignMap) → IsMemberAt l.maps place m → IsMemberAt images.maps place d
+      → AreIsomorphic d m
 
 pub no_images : (l images : Members) → images.elements ≡ l.elements → images.maps ≡ [] → AreImagesBelow l images 0
 no_images l images e none = record {

@@ -1,7 +1,7 @@
 -- The places that the extensions of a chirotope reach, line by line.
 --
--- Main results: line_lookup, what is found about a line; none_yet, skipped_line and found_line, the steps; all_lines, the
--- end.
+-- Main results: line_lookup, what is found about a line; none_yet, skipped_line and found_line, the steps; all_lines,
+-- the end.
 use Rattle.std.proofs.Common.{ℕ, List, ◌≡◌, ◌+◌, ◌<◌, ◌≤◌, ◌∷◌, [], ◌++◌, ◌∙◌, sym, ap, subst, inl, inr, length, get_or}
 use Rattle.std.proofs.Common.{All, Bool, false, Result, Ok, IfOk, arith}
 use Rattle.std.specs.List.{Contains}

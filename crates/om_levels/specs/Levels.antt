@@ -58,4 +58,5 @@ pub record IsIsomorphicTo (maps : List SignMap) (m : SignMap) (place : ℕ) : Ty
 pub record AreImages (l images : Members) : Type 0 where
   pub elements : images.elements ≡ l.elements
   pub as_many : length images.maps ≡ length l.maps
-  pub each : (place : ℕ) (m d : SignMap) → IsMemberAt l.maps place m → IsMemberAt images.maps place d → AreIsomorphic d m
+  pub each : (place : ℕ) (m d : SignMap) → IsMemberAt l.maps place m → IsMemberAt images.maps place d
+      → AreIsomorphic d m

@@ -7,7 +7,7 @@ use super::family::Family;
 use super::lookup::{Lookup, Lookups};
 use super::table::Table;
 use om_chirotope::Chirotope;
-use om_localize::{ExtendError, Signature, extensions};
+use om_localize::{Signature, extensions};
 use om_parallel::map_parts_by_cost;
 use om_signs::{List, MAX_ELEMENTS, MAX_LINES, NoMemory};
 use std::alloc::Global;
@@ -45,9 +45,7 @@ pub(crate) fn reached_by<R: Threads + Sync>(
 {
     let listing = match extensions(rt, alloc, chi, MAX_LINES) {
         Ok(listing) => listing,
-        Err(ExtendError::NotRank3 { .. }) => unreachable!(),
-        Err(ExtendError::Full { .. }) => unreachable!(),
-        Err(ExtendError::Memory) => return Err(NoMemory),
+        Err(error) => return Err(error.memory_alone()),
     };
     if listing.more {
         return Ok(Reaching::TooMany);

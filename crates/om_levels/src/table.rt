@@ -42,10 +42,7 @@ impl<'a> Table<'a> {
         ensures { IfOk result (λ t. t ≡ members.now) }
     {
         let images = images_of(alloc, members)?;
-        let mut places = Vec::new(alloc);
-        for place in 0..images.len() {
-            places.push(place)?;
-        }
+        let mut places: Vec<usize> = (0..images.len()).collect(alloc)?;
         places.sort_unstable_by(|a, b| images.row(*a).cmp(images.row(*b)));
         Ok(Table {
             members,

@@ -22,6 +22,7 @@ within_smaller n xs w off = each_from (IsElement n) xs (λ e m.
     let other : e ≢ suc n = (λ q. off (subst (λ z. IsMember z xs) q m)) in
     (low, omega arith))
 
+-- distinct elements of 1 to n are at most n
 pub few_distinct : (n : ℕ) (xs : List ℕ) → IsDistinct xs → Each (IsElement n) xs → length xs ≤ n
 few_distinct zero [] d w = omega arith
 few_distinct zero (x ∷ xs) d w = let low = w.0.0 in let high = w.0.1 in absurd (omega arith)

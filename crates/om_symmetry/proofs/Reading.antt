@@ -88,7 +88,8 @@ element_of : (entries : List SignedElement) (k : ℕ)
     → get_or (elements_of entries) k 0 ≡ (get_or entries k no_element).element
 element_of entries k = sym (element_listed entries k)
 
-within_all : (n : ℕ) (entries : List SignedElement) (k : ℕ) (a : SignedElement) → k < length entries
+-- what is read at a place of a signed permutation is of one of its elements
+pub within_all : (n : ℕ) (entries : List SignedElement) (k : ℕ) (a : SignedElement) → k < length entries
     → a ≡ get_or entries k no_element → IsSignedPermutation n entries → IsElement n a.element
 within_all n entries k a lt q p =
     let l = length-map entries (λ (b : SignedElement). b.element) in

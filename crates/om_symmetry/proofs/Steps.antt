@@ -1,11 +1,11 @@
 -- Steps of loops over the places of a list of signed elements.
 --
--- Main results: a place of a table (table_at, table_set); one more of a list that is made (made_more, kept_more,
--- stays_more); an entry that is written (written_here, written_elsewhere); one more place of an inverse (back_more).
-use Rattle.std.proofs.Common.{ℕ, zero, suc, ◌≡◌, ◌≢◌, ◌+◌, ◌-◌, ◌<◌, ◌≤◌, List, [], ◌∷◌, ◌++◌, length, get_or, map}
+-- Main results: a place of a table (table_at, table_set); one more of a list that is made (stays_more); an entry that
+-- is written (written_here, written_elsewhere); one more place of an inverse (back_more).
+use Rattle.std.proofs.Common.{ℕ, zero, suc, ◌≡◌, ◌≢◌, ◌+◌, ◌-◌, ◌<◌, ◌≤◌, List, [], ◌∷◌, ◌++◌, length, get_or}
 use Rattle.std.proofs.Common.{take, set, refl, sym, ap, subst, ◌∙◌, inl, inr, arith, false}
 use Rattle.std.proofs.lemmas.Bool.{cases_eq}
-use Rattle.std.proofs.lemmas.List.{get_or-take, get_or-set_same, get_or-set_other, map_more, take_more, length-set}
+use Rattle.std.proofs.lemmas.List.{get_or-take, get_or-set_same, get_or-set_other, length-set}
 use Rattle.std.proofs.lemmas.List.FromFn.{map-range_with_len_more}
 use Rattle.om_laws.specs.Sorting.{IsElement}
 use Rattle.om_symmetry.specs.declared.signed_element.SignedElement.{SignedElement}
@@ -33,21 +33,6 @@ table_set (suc n) (suc i) (b ∷ table) a = ap (λ l. b ∷ l) (table_set n i ta
 entry_at : (xs : List SignedElement) (i : ℕ) → 1 ≤ i → signed_at xs i ≡ get_or xs (i - 1) no_element
 entry_at xs zero low = absurd (omega arith)
 entry_at xs (suc i) low = let e : i ≡ suc i - 1 = omega arith in ap (λ k. get_or xs k no_element) e
-
-pub made_more : (f : SignedElement → SignedElement) (xs made new : List SignedElement) (i : ℕ) (a : SignedElement)
-    → 1 ≤ i → i ≤ length xs → made ≡ map f (take (i - 1) xs) → new ≡ made ++ a ∷ [] → a ≡ f (signed_at xs i)
-    → new ≡ map f (take (i + 1 - 1) xs)
-made_more f xs made new i a low high qm qn qa =
-    let e : i - 1 + 1 ≡ i + 1 - 1 = omega arith in
-    qn ∙ ap (λ l. l ++ a ∷ []) qm ∙ ap (λ b. map f (take (i - 1) xs) ++ b ∷ []) (qa ∙ ap f (entry_at xs i low))
-    ∙ sym (map_more f xs (i - 1) no_element (omega arith)) ∙ ap (λ k. map f (take k xs)) e
-
-pub kept_more : (xs made new : List SignedElement) (i : ℕ) (a : SignedElement) → 1 ≤ i → i ≤ length xs
-    → made ≡ take (i - 1) xs → new ≡ made ++ a ∷ [] → a ≡ signed_at xs i → new ≡ take (i + 1 - 1) xs
-kept_more xs made new i a low high qm qn qa =
-    let e : i - 1 + 1 ≡ i + 1 - 1 = omega arith in
-    qn ∙ ap (λ l. l ++ a ∷ []) qm ∙ ap (λ b. take (i - 1) xs ++ b ∷ []) (qa ∙ entry_at xs i low)
-    ∙ sym (take_more xs (i - 1) no_element (omega arith)) ∙ ap (λ k. take k xs) e
 
 pub stays_more : (made new : List SignedElement) (i : ℕ) → 1 ≤ i → made ≡ identity (i - 1)
     → new ≡ made ++ (record { element = i; negated = false }) ∷ [] → new ≡ identity (i + 1 - 1)

@@ -64,6 +64,14 @@ impl Entries {
         self.len
     }
 
+    /// The signed elements, one after the other.
+    pub fn as_slice(&self) -> &[SignedElement]
+        ensures value { result.now ≡ self.now }
+        ensures few { length result.now ≤ MAX_PLACES }
+    {
+        &self.table[..self.len as usize]
+    }
+
     /// The signed element at a place, counted from 1.
     pub fn at(&self, place: u8) -> SignedElement
         requires low { 1 ≤ place }

@@ -104,11 +104,9 @@ impl SignedPermutation {
         requires { length next.now ≡ length self.now }
         ensures { result ≡ followed_by self.now next.now }
     {
-        let (first, second) = (&self.entries, &next.entries);
         let mut entries = Entries::new();
-        for i in 1..second.len() + 1 {
-            let a = second.at(i);
-            entries.push(first.at(a.element).negated_if(a.negated));
+        for a in next.entries.as_slice() {
+            entries.push(self.entries.at(a.element).negated_if(a.negated));
         }
         SignedPermutation { entries }
     }
@@ -140,8 +138,8 @@ impl SignedPermutation {
     {
         let n = self.elements();
         let mut entries = Entries::new();
-        for i in 1..n + 1 {
-            entries.push(self.at(i));
+        for a in self.entries.as_slice() {
+            entries.push(*a);
         }
         entries.push(SignedElement {
             element: n + 1,
@@ -185,10 +183,8 @@ impl SignedPermutation {
         let rank = chi.rank();
         let elements = self.elements();
         let mut signs = List::new(alloc);
-        let mut s = Subset::first(rank, elements);
-        for _place in 0..Subset::choose(elements, rank) {
+        for s in Subset::all(rank, elements) {
             signs.push(self.image_sign(chi, s))?;
-            s = s.following();
         }
         Ok(Chirotope::lawful(RawMap {
             rank,

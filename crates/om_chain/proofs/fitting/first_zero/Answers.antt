@@ -1,43 +1,28 @@
-use Rattle.std.proofs.Common.{◌≡◌, ◌≤◌, ◌∙◌, sym, ap, subst, arith}
+use Rattle.std.proofs.Common.{◌≡◌, rules, tests}
+use Rattle.std.proofs.lemmas.Option.{IfSome_then}
 use Rattle.om_signs.specs.declared.sign.Sign.TheVariants.{Zero}
-use Rattle.om_signs.specs.SignVec.{at}
-use Rattle.om_subsets.specs.Subsets.{IsSubsetFrom, choose, rank_of}
+use Rattle.om_subsets.proofs.SetChains.{all_sets_of, callable_at_sets, finds_first}
 use Rattle.om_chirotope.specs.Map.{chi_of}
-use Rattle.om_chain.proofs.Pairs.{zero_tested, nonzero_more, uniform_from, first_at}
+use Rattle.om_chain.proofs.Pairs.{FindsZero, uniform_from, first_found}
 use Rattle.om_chain.proofs.fitting.first_zero.Goals as goal
+use Rattle.om_chain.proofs.fitting.first_zero.Goals.{After-find}
 
-pub loop-place-init : goal.loop-place-init
-loop-place-init c = λ k less zero. absurd (omega arith)
+pub find-requires-clause-callable : goal.find-requires-clause-callable
+find-requires-clause-callable c =
+    callable_at_sets c.args.chi.now.elements c.args.chi.now.rank
+    (all_sets_of c.all.ensures.sets c.elements.ensures.value c.rank.ensures.value) (λ x q k. search (rules, tests))
+    (λ x set. let n = set.n_is in let s = set.size in search rules)
 
-pub returns-then-eq-clause-some : goal.returns-then-eq-clause-some
-returns-then-eq-clause-some c =
-    let m = c.args.chi.now in
-    let set = c.unrank-set.result in
-    let n : set.n ≡ m.elements = c.unrank-set.ensures.n ∙ c.elements-elements.ensures.value in
-    let size = c.unrank-set.ensures.size ∙ c.rank-rank.ensures.value in
-    let list = subst (λ k. IsSubsetFrom 1 k set.elements) c.elements-elements.ensures.value
-    c.unrank-set.ensures.lawful in
-    let place = subst (λ k. rank_of k set.elements ≡ c.loop-place.place) c.elements-elements.ensures.value
-    c.unrank-set.ensures.place in
-    let zero : chi_of m set.elements ≡ Zero =
-    sym c.at.ensures.place ∙ (zero_tested c.at.result c.eq.result c.eq.ensures).0 c.if-eq.true in
-    first_at m c.loop-place.place set n size list place zero c.loop-place.invariant
-
-pub loop-place-preserved : goal.loop-place-preserved
-loop-place-preserved c =
-    let m = c.args.chi.now in
-    let set = c.unrank-set.result in
-    let place = subst (λ k. rank_of k set.elements ≡ c.loop-place.place) c.elements-elements.ensures.value
-    c.unrank-set.ensures.place in
-    nonzero_more m c.loop-place.place c.loop-place.invariant
-    (λ zero. (zero_tested c.at.result c.eq.result c.eq.ensures).1 c.if-eq.false
-    (c.at.ensures.place ∙ ap (at m.signs) place ∙ zero))
+-- the call of `find` gives the first set with the sign zero
+found : (c : After-find) → FindsZero c.args.chi.now c.find.result
+found c =
+    finds_first c.args.chi.now.elements c.args.chi.now.rank (λ xs. chi_of c.args.chi.now xs ≡ Zero)
+    (λ xs. chi_of c.args.chi.now xs ≡ Zero → ⊥)
+    (all_sets_of c.all.ensures.sets c.elements.ensures.value c.rank.ensures.value) _ _ c.find.result
+    c.find.ensures.ran (λ x q k. search (rules, tests)) (λ x q k. search (rules, tests))
 
 pub returns-clause-none : goal.returns-clause-none
-returns-clause-none c = λ none.
-    let m = c.args.chi.now in
-    let all : choose m.elements m.rank ≤ c.loop-place.place =
-    subst (λ k. choose k m.rank ≤ c.loop-place.place) c.elements-elements.ensures.value
-    (subst (λ r. choose c.elements-elements.result r ≤ c.loop-place.place) c.rank-rank.ensures.value
-    (let end = c.choose-place-end.ensures.value in let test = c.loop-place-test.false in omega arith)) in
-    uniform_from m c.loop-place.place all c.loop-place.invariant
+returns-clause-none c = uniform_from c.args.chi.now c.find.result (found c)
+
+pub returns-clause-some : goal.returns-clause-some
+returns-clause-some c = IfSome_then c.find.result (found c).first (first_found c.args.chi.now)

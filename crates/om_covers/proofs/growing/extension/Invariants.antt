@@ -1,11 +1,8 @@
-use Rattle.std.proofs.Common.{◌≡◌, map, take}
-use Rattle.om_subsets.specs.Subsets.{all_subsets}
-use Rattle.om_subsets.proofs.Walks.{IsAt}
+use Rattle.std.proofs.Common.{◌≡◌, map}
 use Rattle.om_covers.specs.Growing.{grown_sign}
 use Rattle.om_covers.proofs.growing.extension.Given as goal
 
-abbrev pub invariant-loop-place : goal.invariant-loop-place
-invariant-loop-place l = record {
-  made : l.signs ≡ map (grown_sign l.chi l.signature) (take l._place (all_subsets l.elements l.rank));
-  at : IsAt l.elements l.rank l._place l.s;
-}
+-- the signs of the sets that came
+abbrev pub invariant-loop-s : goal.invariant-loop-s
+invariant-loop-s l = (goal.iterator-loop-s).can_next l.s-iterator × (goal.iterator-loop-s).is_finite l.s-iterator
+    × (l.signs ≡ map (λ s. grown_sign l.chi l.signature s.elements) l.yielded)

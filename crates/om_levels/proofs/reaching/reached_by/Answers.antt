@@ -1,25 +1,17 @@
-use Rattle.std.proofs.Common.{◌<◌, ◌∙◌, [], length, All, Ok, Err, false, refl, sym, ap, subst, get_or, arith}
+use Rattle.std.proofs.Common.{◌<◌, ◌∙◌, [], length, All, Ok, false, refl, sym, ap, subst, get_or, arith}
 use Rattle.std.proofs.lemmas.List.{get_or_default}
 use Rattle.om_signs.specs.declared.limits.TheConstants.{MAX_LINES}
 use Rattle.om_localize.specs.Extensions.{IsSignature}
 use Rattle.om_localize.specs.Listings.{AreFirst}
+use Rattle.om_localize.proofs.MemoryCause.{memory_is_cause}
 use Rattle.om_covers.specs.Growing.{grown}
 use Rattle.om_levels.specs.Families.{IsHalfOf}
 use Rattle.om_levels.proofs.Places.{line_lookup, skipped_line, found_line, all_lines, listed_signature}
 use Rattle.om_levels.proofs.reaching.reached_by.Goals as goal
 
-pub unreachable-requires : goal.unreachable-requires
-unreachable-requires g c =
-    let k = (c.extensions.ensures.not_rank_3 c.in-Err-NotRank3.field-0-0).0
-    (c.in-Err-NotRank3.is ∙ ap Err c.in-Err-NotRank3.field-0-is) in
-    k.1 (sym k.0 ∙ c.requires.rank)
-
-pub unreachable-requires-in-Err-Full : goal.unreachable-requires-in-Err-Full
-unreachable-requires-in-Err-Full g c =
-    let k = (c.extensions.ensures.full c.in-Err-Full.field-0-0).0 (c.in-Err-Full.is ∙ ap Err c.in-Err-Full.field-0-is) in
-    let e = k.1 ∙ k.2 in
-    let l = c.requires.room in
-    omega arith
+pub memory_alone-requires : goal.memory_alone-requires
+memory_alone-requires g c = memory_is_cause c.args.chi.now.rank c.args.chi.now.elements c.in-Err.error
+    c.in-Err.ensures.not_rank_3 c.in-Err.ensures.full c.requires.rank c.requires.room
 
 pub invariant_of-lookups : goal.invariant_of-lookups
 invariant_of-lookups g c = record {

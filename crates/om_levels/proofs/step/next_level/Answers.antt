@@ -1,4 +1,5 @@
-use Rattle.std.proofs.Common.{◌≡◌, ◌≤◌, All, IfSome, IsNone, true, false, ◌<◌, slice_index_or, length, refl, sym, subst, arith}
+use Rattle.std.proofs.Common.{◌≡◌, ◌≤◌, All, IfSome, IsNone, true, false, ◌<◌, slice_index_or, length, refl, sym}
+use Rattle.std.proofs.Common.{subst, arith}
 use Rattle.om_covers.specs.Classes.{IsComplete}
 use Rattle.om_levels.specs.Families.{IsOfFamily, IsHalfOf}
 use Rattle.om_levels.specs.Steps.{ArePlaces, IsReaching}
@@ -16,8 +17,8 @@ loop-member-preserved g c =
     c.in_ok-places.ensures in
     let places = subst (ArePlaces (IsHalfOf family chi.elements) chi next) (sym c.as_slice.ensures)
     (subst (IsReaching family chi next) c.in-Places.is reached) in
-    let are = subst (λ k. ArePlaces (IsHalfOf family k) chi next c.as_slice.result.now) c.in_ok-chi.ensures.kind.elements
-    places in
+    let kind = c.in_ok-chi.ensures.kind in
+    let are = subst (λ k. ArePlaces (IsHalfOf family k) chi next c.as_slice.result.now) kind.elements places in
     more_covered (IsHalfOf family n) maps next c.loop-member.member c.loop-member.met.items c.mark.new.marks.items chi
     c.as_slice.result.now c.loop-member.invariant are c.in_ok-chi.ensures.value c.mark.ensures.len c.mark.ensures.marked
     c.mark.ensures.kept c.mark.ensures.set

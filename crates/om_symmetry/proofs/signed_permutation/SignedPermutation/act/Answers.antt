@@ -1,46 +1,46 @@
-use Rattle.std.proofs.Common.{◌∙◌, ◌<◌, sym, subst, arith}
-use Rattle.om_subsets.specs.Subsets.{choose}
-use Rattle.om_subsets.proofs.Walks.{at_next}
+use Rattle.std.proofs.Common.{◌∙◌, sym, subst}
+use Rattle.om_subsets.proofs.SetChains.{at_turn, mapped_at_end}
 use Rattle.om_chirotope.specs.Map.{value_of}
 use Rattle.om_chirotope.specs.Chirotope.{IsChirotope}
 use Rattle.om_symmetry.specs.Permutations.{IsSignedPermutation, image_value}
 use Rattle.om_symmetry.proofs.Axioms.{acted_chirotope}
-use Rattle.om_symmetry.proofs.Making.{sign_more, made_map}
+use Rattle.om_symmetry.proofs.Making.{made_map}
 use Rattle.om_symmetry.proofs.signed_permutation.SignedPermutation.act.Goals as goal
 
-pub loop-place-preserved : goal.loop-place-preserved
-loop-place-preserved c =
-    let end = c.choose-place-end.ensures.value in
-    let test = c.loop-place-test.true in
-    let n = c.elements-elements.result in
-    let r = c.rank-rank.result in
-    let at = c.loop-place.invariant.at in
-    let l : c.loop-place._place < choose n r = omega (arith, end, test) in
+pub image_sign-requires : goal.image_sign-requires
+image_sign-requires c =
+    let turn =
+    at_turn c.elements-elements.result c.rank-rank.result _ _ _
+    (c.into_iter-s-iterator.ensures.into_iter_gives ∙ c.all-s-items.ensures.sets) c.loop-s.yielded_by c.in-Some.is
+    c.next.ensures.steps in
     record {
-      made = sign_more (image_value c.args.self.now (value_of c.args.chi.now)) n r c.loop-place._place
-          c.loop-place.signs c.push.new.self c.loop-place.s c.image_sign.result l at c.image_sign.ensures
-          c.loop-place.invariant.made c.in_ok-push.ensures.ok;
-      at = at_next n r c.loop-place._place c.loop-place.s c.following-s.result c.following-s.ensures.n
-          c.following-s.ensures.size c.following-s.ensures.lawful c.following-s.ensures.place l at;
+      elements = c.requires;
+      n = turn.at.n_is ∙ c.elements-elements.ensures.value ∙ c.requires;
+      size = turn.at.size ∙ c.rank-rank.ensures.value;
     }
 
 pub lawful-requires-clause-axioms : goal.lawful-requires-clause-axioms
 lawful-requires-clause-axioms c =
     let m = c.args.chi.now in
+    let w = c.args.self.now in
+    let all =
+    mapped_at_end c.elements-elements.result c.rank-rank.result (image_value w (value_of m)) _ _ _ _
+    c.loop-s.invariant.2 (c.into_iter-s-iterator.ensures.into_iter_gives ∙ c.all-s-items.ensures.sets)
+    c.loop-s.yielded_by c.in-None.is c.next.ensures.steps in
     subst IsChirotope
-    (sym (made_map (image_value c.args.self.now (value_of m)) c.elements-elements.result c.rank-rank.result
-    c.loop-place._place c.choose-place-end.result c.loop-place.signs m.rank m.elements c.choose-place-end.ensures.value
-    c.loop-place-test.false c.loop-place.invariant.made (c.elements-elements.ensures.value ∙ c.requires)
+    (sym (made_map (image_value w (value_of m)) _ _ c.loop-s.signs all (c.elements-elements.ensures.value ∙ c.requires)
     c.rank-rank.ensures.value))
-    (acted_chirotope m c.args.self.now
-    (subst (λ k. IsSignedPermutation k c.args.self.now) c.requires c.elements-elements.ensures.lawful)
+    (acted_chirotope m w (subst (λ k. IsSignedPermutation k w) c.requires c.elements-elements.ensures.lawful)
     c.rank-rank.ensures.lawful)
 
 pub returns : goal.returns
 returns c =
     let m = c.args.chi.now in
+    let w = c.args.self.now in
+    let all =
+    mapped_at_end c.elements-elements.result c.rank-rank.result (image_value w (value_of m)) _ _ _ _
+    c.loop-s.invariant.2 (c.into_iter-s-iterator.ensures.into_iter_gives ∙ c.all-s-items.ensures.sets)
+    c.loop-s.yielded_by c.in-None.is c.next.ensures.steps in
     c.lawful.ensures
-    ∙ made_map (image_value c.args.self.now (value_of m)) c.elements-elements.result c.rank-rank.result
-    c.loop-place._place c.choose-place-end.result c.loop-place.signs m.rank m.elements c.choose-place-end.ensures.value
-    c.loop-place-test.false c.loop-place.invariant.made (c.elements-elements.ensures.value ∙ c.requires)
+    ∙ made_map (image_value w (value_of m)) _ _ c.loop-s.signs all (c.elements-elements.ensures.value ∙ c.requires)
     c.rank-rank.ensures.value

@@ -1,5 +1,5 @@
-use Rattle.std.proofs.Common.{◌≡◌, ◌-◌, take}
+use Rattle.std.proofs.Common.{◌≡◌, take}
 use Rattle.om_symmetry.proofs.signed_permutation.SignedPermutation.lift.Given as goal
 
-abbrev pub invariant-loop-i : goal.invariant-loop-i
-invariant-loop-i l = l.entries ≡ take (l.i - 1) l.self
+abbrev pub invariant-loop-a : goal.invariant-loop-a
+invariant-loop-a l = l.entries ≡ take l.a-index l.a-items
