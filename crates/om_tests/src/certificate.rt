@@ -3,6 +3,7 @@
 
 ghost use Rattle.om_certificate.specs.Validity.{IsWithinLimits};
 
+use super::helpers::hold;
 use super::maps::word_of;
 use om_certificate::{CertRefused, Evidence, LpEnd, Verdict, Weight, certificate, check};
 use om_chirotope::Chirotope;
@@ -53,26 +54,27 @@ fn unordered(alloc: Global) -> Evidence
 #[test]
 fn refusals(rt: HostRuntime) {
     let alloc = rt.alloc();
-    for (case, holds) in [
-        (
-            "rank 2",
-            is_refused(
-                chirotope_of(&rt, alloc, 2, 4, "++++++"),
-                Evidence::Vectors(word_of(&FOUR)),
-                CertRefused::NotRank3 { r: 2 },
+    hold(
+        &rt,
+        &[
+            (
+                "rank 2",
+                is_refused(
+                    chirotope_of(&rt, alloc, 2, 4, "++++++"),
+                    Evidence::Vectors(word_of(&FOUR)),
+                    CertRefused::NotRank3 { r: 2 },
+                ),
             ),
-        ),
-        (
-            "a bracket out of order",
-            is_refused(
-                chirotope_of(&rt, alloc, 3, 3, "+"),
-                unordered(alloc),
-                CertRefused::Bracket { entry: 1 },
+            (
+                "a bracket out of order",
+                is_refused(
+                    chirotope_of(&rt, alloc, 3, 3, "+"),
+                    unordered(alloc),
+                    CertRefused::Bracket { entry: 1 },
+                ),
             ),
-        ),
-    ] {
-        assert!(rt; holds, "{case}");
-    }
+        ],
+    );
 }
 
 /// The kind of some evidence: 1 for vectors, 2 for entries, 3 for weights, and 4 for a verdict handed back.

@@ -2,6 +2,7 @@
 
 ghost use Rattle.std.specs.Prelude.{◌≡◌, ◌≤◌, IfOk};
 
+use super::helpers::hold;
 use om_chirotope::{BadMap, Chirotope, MapRefused, check, has_exchange};
 use om_samples::{SampleError, chirotope_of, is_map, map_of, vector_of};
 use om_signs::{MAX_ELEMENTS, Sign};
@@ -59,15 +60,16 @@ fn has_negative(found: Result<Chirotope, SampleError>, text: &str, normal: &str)
 #[test]
 fn values_and_negatives(rt: HostRuntime) {
     let alloc = rt.alloc();
-    for (case, holds) in [
-        ("values", has_values(chirotope_of(&rt, alloc, 2, 3, "+-+"))),
-        (
-            "negatives",
-            has_negative(chirotope_of(&rt, alloc, 2, 3, "+-+"), "-+-", "+-+"),
-        ),
-    ] {
-        assert!(rt; holds, "{case}");
-    }
+    hold(
+        &rt,
+        &[
+            ("values", has_values(chirotope_of(&rt, alloc, 2, 3, "+-+"))),
+            (
+                "negatives",
+                has_negative(chirotope_of(&rt, alloc, 2, 3, "+-+"), "-+-", "+-+"),
+            ),
+        ],
+    );
 }
 
 /// Whether a map was accepted, or refused for a reason.
@@ -105,19 +107,20 @@ fn checks(rt: HostRuntime) {
         s: Subset::from_mask(0b1111, 6),
         a: Subset::from_mask(0b110000, 6),
     };
-    for (case, holds) in [
-        ("accepted", is_checked(&rt, alloc, 3, 4, "++++", None)),
-        (
-            "all zero",
-            is_checked(&rt, alloc, 3, 4, "0000", Some(MapRefused::AllZero)),
-        ),
-        (
-            "a relation",
-            is_checked(&rt, alloc, 3, 6, "+000000000000000000+", Some(why)),
-        ),
-    ] {
-        assert!(rt; holds, "{case}");
-    }
+    hold(
+        &rt,
+        &[
+            ("accepted", is_checked(&rt, alloc, 3, 4, "++++", None)),
+            (
+                "all zero",
+                is_checked(&rt, alloc, 3, 4, "0000", Some(MapRefused::AllZero)),
+            ),
+            (
+                "a relation",
+                is_checked(&rt, alloc, 3, 6, "+000000000000000000+", Some(why)),
+            ),
+        ],
+    );
 }
 
 /// Whether the text spells a map, and its bases have the exchange property or not.
@@ -137,17 +140,18 @@ fn is_exchange(alloc: Global, rank: u8, elements: u8, text: &str, expected: bool
 #[test]
 fn exchanges(rt: HostRuntime) {
     let alloc = rt.alloc();
-    for (case, holds) in [
-        (
-            "123 and 456",
-            is_exchange(alloc, 3, 6, "+000000000000000000+", false),
-        ),
-        (
-            "each set of three",
-            is_exchange(alloc, 3, 6, "+++++-++++++++++++++", true),
-        ),
-        ("no basis", is_exchange(alloc, 3, 3, "0", true)),
-    ] {
-        assert!(rt; holds, "{case}");
-    }
+    hold(
+        &rt,
+        &[
+            (
+                "123 and 456",
+                is_exchange(alloc, 3, 6, "+000000000000000000+", false),
+            ),
+            (
+                "each set of three",
+                is_exchange(alloc, 3, 6, "+++++-++++++++++++++", true),
+            ),
+            ("no basis", is_exchange(alloc, 3, 3, "0", true)),
+        ],
+    );
 }

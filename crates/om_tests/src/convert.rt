@@ -1,6 +1,6 @@
 //! One oriented matroid in its four representations: 1 and 2 are parallel, 3 is a coloop and 4 a loop.
 
-use super::helpers::{are_circuits, are_cocircuits, are_covectors, is_chirotope};
+use super::helpers::{are_circuits, are_cocircuits, are_covectors, hold, is_chirotope};
 use om_chirotope::Chirotope;
 use om_circuits::{Circuits, Cocircuits, SetRefused};
 use om_convert::{
@@ -226,35 +226,36 @@ fn covectors_read<R: Threads + Sync>(
 #[test]
 fn lists_are_read(rt: HostRuntime) {
     let alloc = rt.alloc();
-    for (case, holds) in [
-        (
-            "circuits",
-            are_circuits(circuits_read(&rt, alloc, 3, &["++0", "--0"]), "++0 --0"),
-        ),
-        (
-            "circuits without a negative",
-            lacks_a_negative(circuits_read(&rt, alloc, 2, &["+-"])),
-        ),
-        (
-            "cocircuits",
-            are_cocircuits(cocircuits_read(&rt, alloc, 3, &["++0", "--0"]), "++0 --0"),
-        ),
-        (
-            "cocircuits without a negative",
-            lacks_a_negative(cocircuits_read(&rt, alloc, 2, &["+-"])),
-        ),
-        (
-            "covectors",
-            are_covectors(
-                covectors_read(&rt, alloc, 2, &["00", "++", "--"]),
-                "00 ++ --",
+    hold(
+        &rt,
+        &[
+            (
+                "circuits",
+                are_circuits(circuits_read(&rt, alloc, 3, &["++0", "--0"]), "++0 --0"),
             ),
-        ),
-        (
-            "covectors without zero",
-            lacks_zero(covectors_read(&rt, alloc, 1, &["+", "-"])),
-        ),
-    ] {
-        assert!(rt; holds, "{case}");
-    }
+            (
+                "circuits without a negative",
+                lacks_a_negative(circuits_read(&rt, alloc, 2, &["+-"])),
+            ),
+            (
+                "cocircuits",
+                are_cocircuits(cocircuits_read(&rt, alloc, 3, &["++0", "--0"]), "++0 --0"),
+            ),
+            (
+                "cocircuits without a negative",
+                lacks_a_negative(cocircuits_read(&rt, alloc, 2, &["+-"])),
+            ),
+            (
+                "covectors",
+                are_covectors(
+                    covectors_read(&rt, alloc, 2, &["00", "++", "--"]),
+                    "00 ++ --",
+                ),
+            ),
+            (
+                "covectors without zero",
+                lacks_zero(covectors_read(&rt, alloc, 1, &["+", "-"])),
+            ),
+        ],
+    );
 }

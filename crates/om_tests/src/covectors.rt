@@ -3,7 +3,7 @@
 
 ghost use Rattle.std.specs.Prelude.{◌≡◌, IfOk};
 
-use super::helpers::are_found;
+use super::helpers::{are_found, hold};
 use om_covectors::{BadCov, CovRefused, Covectors, check, minimal_vectors};
 use om_samples::{SampleError, covectors_of, vector_of, vectors_of};
 use om_signs::{List, SignVec};
@@ -45,16 +45,17 @@ fn are_seen<R: Abort>(rt: &R, found: Result<Covectors, SampleError>, size: usize
     requires { IfOk found (λ c. c.elements ≡ 3) }
 {
     let covectors = found.expect(rt, "covectors");
-    for (case, holds) in [
-        ("elements", covectors.elements() == 3),
-        ("size", covectors.members().len() == size),
-        ("+0-", covectors.contains(vector_of(3, "+0-"))),
-        ("+0+", !covectors.contains(vector_of(3, "+0+"))),
-        ("minimal ones", are_found(covectors.minimal(), text)),
-        ("size of the list", covectors.into_list().len() == size),
-    ] {
-        assert!(rt; holds, "{case}");
-    }
+    hold(
+        rt,
+        &[
+            ("elements", covectors.elements() == 3),
+            ("size", covectors.members().len() == size),
+            ("+0-", covectors.contains(vector_of(3, "+0-"))),
+            ("+0+", !covectors.contains(vector_of(3, "+0+"))),
+            ("minimal ones", are_found(covectors.minimal(), text)),
+            ("size of the list", covectors.into_list().len() == size),
+        ],
+    );
 }
 
 /// Whether the vectors of minimal support among some vectors are those of a text.
@@ -84,36 +85,37 @@ fn refused(rt: HostRuntime) {
     let alloc = rt.alloc();
     let no_composition = CovRefused::NoComposition { i: 2, j: 4 };
     let no_elimination = CovRefused::NoElimination { i: 2, j: 4, e: 2 };
-    for (case, holds) in [
-        (
-            "no zero",
-            is_refused(&rt, alloc, 1, &["+", "-"], CovRefused::NoZero),
-        ),
-        (
-            "no negative",
-            is_refused(&rt, alloc, 1, &["0", "+"], CovRefused::NoNegative { i: 2 }),
-        ),
-        (
-            "no composition",
-            is_refused(
-                &rt,
-                alloc,
-                2,
-                &["00", "+0", "-0", "0+", "0-"],
-                no_composition,
+    hold(
+        &rt,
+        &[
+            (
+                "no zero",
+                is_refused(&rt, alloc, 1, &["+", "-"], CovRefused::NoZero),
             ),
-        ),
-        (
-            "no elimination",
-            is_refused(
-                &rt,
-                alloc,
-                2,
-                &["00", "++", "--", "+-", "-+"],
-                no_elimination,
+            (
+                "no negative",
+                is_refused(&rt, alloc, 1, &["0", "+"], CovRefused::NoNegative { i: 2 }),
             ),
-        ),
-    ] {
-        assert!(rt; holds, "{case}");
-    }
+            (
+                "no composition",
+                is_refused(
+                    &rt,
+                    alloc,
+                    2,
+                    &["00", "+0", "-0", "0+", "0-"],
+                    no_composition,
+                ),
+            ),
+            (
+                "no elimination",
+                is_refused(
+                    &rt,
+                    alloc,
+                    2,
+                    &["00", "++", "--", "+-", "-+"],
+                    no_elimination,
+                ),
+            ),
+        ],
+    );
 }

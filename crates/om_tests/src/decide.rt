@@ -3,6 +3,7 @@
 ghost use Rattle.om_budgets.specs.Ranges.{AreBudgets};
 ghost use Rattle.std.specs.Prelude.{◌≡◌};
 
+use super::helpers::hold;
 use super::maps::PAPPUS;
 use om_certificate::{LpEnd, Verdict};
 use om_chirotope::Chirotope;
@@ -68,62 +69,63 @@ fn verdicts(rt: HostRuntime) {
     let (rank_2, four) = ("+++", "++++");
     let five = "++++++++++";
     let most = 1_000_000;
-    for (case, holds) in [
-        (
-            "rank 2",
-            is_decided(
-                alloc,
-                chirotope_of(&rt, alloc, 2, 3, rank_2),
-                budgets(1, 1),
-                (0, 2),
+    hold(
+        &rt,
+        &[
+            (
+                "rank 2",
+                is_decided(
+                    alloc,
+                    chirotope_of(&rt, alloc, 2, 3, rank_2),
+                    budgets(1, 1),
+                    (0, 2),
+                ),
             ),
-        ),
-        (
-            "four elements, found at the last step",
-            is_decided(
-                alloc,
-                chirotope_of(&rt, alloc, 3, 4, four),
-                budgets(20, most),
-                (1, 4),
+            (
+                "four elements, found at the last step",
+                is_decided(
+                    alloc,
+                    chirotope_of(&rt, alloc, 3, 4, four),
+                    budgets(20, most),
+                    (1, 4),
+                ),
             ),
-        ),
-        (
-            "five elements, exhausted",
-            is_decided(
-                alloc,
-                chirotope_of(&rt, alloc, 3, 5, five),
-                budgets(52, most),
-                (3, 10),
+            (
+                "five elements, exhausted",
+                is_decided(
+                    alloc,
+                    chirotope_of(&rt, alloc, 3, 5, five),
+                    budgets(52, most),
+                    (3, 10),
+                ),
             ),
-        ),
-        (
-            "Pappus, weights",
-            is_decided(
-                alloc,
-                chirotope_of(&rt, alloc, 3, 9, PAPPUS),
-                budgets(1, most),
-                (3, 75),
+            (
+                "Pappus, weights",
+                is_decided(
+                    alloc,
+                    chirotope_of(&rt, alloc, 3, 9, PAPPUS),
+                    budgets(1, most),
+                    (3, 75),
+                ),
             ),
-        ),
-        (
-            "non-Pappus, a certificate",
-            is_decided(
-                alloc,
-                chirotope_of(&rt, alloc, 3, 9, NON_PAPPUS),
-                budgets(100_000, 136),
-                (2, 22),
+            (
+                "non-Pappus, a certificate",
+                is_decided(
+                    alloc,
+                    chirotope_of(&rt, alloc, 3, 9, NON_PAPPUS),
+                    budgets(100_000, 136),
+                    (2, 22),
+                ),
             ),
-        ),
-        (
-            "non-Pappus, a pivot too few",
-            is_decided(
-                alloc,
-                chirotope_of(&rt, alloc, 3, 9, NON_PAPPUS),
-                budgets(1, 135),
-                (4, 77),
+            (
+                "non-Pappus, a pivot too few",
+                is_decided(
+                    alloc,
+                    chirotope_of(&rt, alloc, 3, 9, NON_PAPPUS),
+                    budgets(1, 135),
+                    (4, 77),
+                ),
             ),
-        ),
-    ] {
-        assert!(rt; holds, "{case}");
-    }
+        ],
+    );
 }

@@ -1,5 +1,6 @@
 //! Statements on chirotopes whose signs are all plus, and an equation on the Pappus configuration.
 
+use super::helpers::hold;
 use super::maps::PAPPUS;
 use om_chirotope::Chirotope;
 use om_grassmann::{
@@ -118,35 +119,36 @@ fn statements(rt: HostRuntime) {
     let alloc = rt.alloc();
     let five = "++++++++++";
     let equation = statement([1, 2, 3, 4, 7, 3, 2], false);
-    for (case, holds) in [
-        // in a rank other than 3 there are none
-        (
-            "all of five elements",
-            has_all(chirotope_of(&rt, alloc, 3, 5, five), &TEN),
-        ),
-        (
-            "none of rank 2",
-            has_all(chirotope_of(&rt, alloc, 2, 5, five), &[]),
-        ),
-        // each of 6 elements has two with each four of the other five; the last are those of 6 with 2, 3, 4 and 5
-        (
-            "the last of six elements",
-            has_last(
-                chirotope_of(&rt, alloc, 3, 6, "++++++++++++++++++++"),
-                59,
-                [6, 2, 3, 4, 5, 3, 2],
+    hold(
+        &rt,
+        &[
+            // in a rank other than 3 there are none
+            (
+                "all of five elements",
+                has_all(chirotope_of(&rt, alloc, 3, 5, five), &TEN),
             ),
-        ),
-        // since 123 is collinear, 127 with 134 is equal to 124 with 137
-        (
-            "sides of an equation",
-            has_sides(
-                chirotope_of(&rt, alloc, 3, 9, PAPPUS),
-                equation,
-                [0b1000011, 0b1101, 0b1011, 0b1000101],
+            (
+                "none of rank 2",
+                has_all(chirotope_of(&rt, alloc, 2, 5, five), &[]),
             ),
-        ),
-    ] {
-        assert!(rt; holds, "{case}");
-    }
+            // each of 6 elements has two with each four of the other five; the last are those of 6 with 2, 3, 4 and 5
+            (
+                "the last of six elements",
+                has_last(
+                    chirotope_of(&rt, alloc, 3, 6, "++++++++++++++++++++"),
+                    59,
+                    [6, 2, 3, 4, 5, 3, 2],
+                ),
+            ),
+            // since 123 is collinear, 127 with 134 is equal to 124 with 137
+            (
+                "sides of an equation",
+                has_sides(
+                    chirotope_of(&rt, alloc, 3, 9, PAPPUS),
+                    equation,
+                    [0b1000011, 0b1101, 0b1011, 0b1000101],
+                ),
+            ),
+        ],
+    );
 }

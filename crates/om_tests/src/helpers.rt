@@ -5,6 +5,14 @@ use om_circuits::{Circuits, Cocircuits};
 use om_covectors::Covectors;
 use om_samples::{are_vectors, is_map};
 use om_signs::{List, SignVec};
+use std::process::Abort;
+
+/// Asserts that each of some cases holds. A test states its cases with this one, so that their loop is proved once.
+pub fn hold<R: Abort>(rt: &R, cases: &[(&str, bool)]) {
+    for (case, holds) in cases {
+        assert!(rt; *holds, "{case}");
+    }
+}
 
 /// Whether a chirotope was found, and has this rank, this many elements and the signs of a text.
 pub fn is_chirotope<E: Drop>(

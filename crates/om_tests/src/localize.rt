@@ -2,6 +2,7 @@
 
 ghost use Rattle.std.specs.Prelude.{◌≤◌};
 
+use super::helpers::hold;
 use om_chirotope::Chirotope;
 use om_localize::{ExtendError, Listing, Signature, extensions};
 use om_samples::{SampleError, chirotope_of};
@@ -39,32 +40,33 @@ fn lists<R: Threads + Sync>(
 #[test]
 fn extensions_of_three(rt: HostRuntime) {
     let alloc = rt.alloc();
-    for (case, holds) in [
-        (
-            "all 27",
-            lists(
-                &rt,
-                alloc,
-                chirotope_of(&rt, alloc, 3, 3, "+"),
-                27,
-                27,
-                false,
+    hold(
+        &rt,
+        &[
+            (
+                "all 27",
+                lists(
+                    &rt,
+                    alloc,
+                    chirotope_of(&rt, alloc, 3, 3, "+"),
+                    27,
+                    27,
+                    false,
+                ),
             ),
-        ),
-        (
-            "26, and a further one",
-            lists(
-                &rt,
-                alloc,
-                chirotope_of(&rt, alloc, 3, 3, "+"),
-                26,
-                26,
-                true,
+            (
+                "26, and a further one",
+                lists(
+                    &rt,
+                    alloc,
+                    chirotope_of(&rt, alloc, 3, 3, "+"),
+                    26,
+                    26,
+                    true,
+                ),
             ),
-        ),
-    ] {
-        assert!(rt; holds, "{case}");
-    }
+        ],
+    );
 }
 
 #[test]

@@ -3,6 +3,7 @@
 ghost use Rattle.std.specs.Prelude.{◌≡◌, ◌≤◌, ◌↔◌, IsTrue, IfOk};
 ghost use Rattle.om_chirotope.specs.ThreeTerm.{IsBasis};
 
+use super::helpers::hold;
 use super::maps::PAPPUS;
 use om_chirotope::Chirotope;
 use om_matroid::{exchange, extend_to_basis, first_basis, is_coloop, is_loop, parallel, rank_of};
@@ -72,22 +73,23 @@ const COLOOPS: Facts = (
 #[test]
 fn four_elements(rt: HostRuntime) {
     let alloc = rt.alloc();
-    for (case, holds) in [
-        (
-            "a loop, a coloop and a parallel pair",
-            has_facts(chirotope_of(&rt, alloc, 2, 4, "0+0+00"), PARALLEL),
-        ),
-        (
-            "four loops",
-            has_facts(chirotope_of(&rt, alloc, 0, 4, "+"), LOOPS),
-        ),
-        (
-            "four coloops",
-            has_facts(chirotope_of(&rt, alloc, 4, 4, "+"), COLOOPS),
-        ),
-    ] {
-        assert!(rt; holds, "{case}");
-    }
+    hold(
+        &rt,
+        &[
+            (
+                "a loop, a coloop and a parallel pair",
+                has_facts(chirotope_of(&rt, alloc, 2, 4, "0+0+00"), PARALLEL),
+            ),
+            (
+                "four loops",
+                has_facts(chirotope_of(&rt, alloc, 0, 4, "+"), LOOPS),
+            ),
+            (
+                "four coloops",
+                has_facts(chirotope_of(&rt, alloc, 4, 4, "+"), COLOOPS),
+            ),
+        ],
+    );
 }
 
 /// Whether a set is a basis.

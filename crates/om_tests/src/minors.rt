@@ -2,7 +2,7 @@
 
 ghost use Rattle.std.specs.Prelude.{◌≡◌, IfOk};
 
-use super::helpers::{are_circuits, are_cocircuits, are_covectors, is_chirotope};
+use super::helpers::{are_circuits, are_cocircuits, are_covectors, hold, is_chirotope};
 use om_chirotope::Chirotope;
 use om_circuits::{Circuits, Cocircuits};
 use om_covectors::Covectors;
@@ -31,30 +31,31 @@ fn of_chirotope<R: Abort>(rt: &R, alloc: Global, found: Result<Chirotope, Sample
     requires { IfOk found (λ c. c.elements ≡ 4) }
 {
     let chi = found.expect(rt, "a chirotope");
-    for (case, holds) in [
-        (
-            "1 deleted",
-            is_chirotope(delete_chirotope(alloc, &chi, 1), 2, 3, "+00"),
-        ),
-        (
-            "3 deleted",
-            is_chirotope(delete_chirotope(alloc, &chi, 3), 1, 3, "++0"),
-        ),
-        (
-            "1 contracted",
-            is_chirotope(contract_chirotope(alloc, &chi, 1), 1, 3, "0+0"),
-        ),
-        (
-            "4 contracted",
-            is_chirotope(contract_chirotope(alloc, &chi, 4), 2, 3, "0++"),
-        ),
-        (
-            "1 reoriented",
-            is_map(&reorient_chirotope(chi, 0b1).into_raw(), 2, 4, "0+0-00"),
-        ),
-    ] {
-        assert!(rt; holds, "a chirotope, {case}");
-    }
+    hold(
+        rt,
+        &[
+            (
+                "a chirotope, 1 deleted",
+                is_chirotope(delete_chirotope(alloc, &chi, 1), 2, 3, "+00"),
+            ),
+            (
+                "a chirotope, 3 deleted",
+                is_chirotope(delete_chirotope(alloc, &chi, 3), 1, 3, "++0"),
+            ),
+            (
+                "a chirotope, 1 contracted",
+                is_chirotope(contract_chirotope(alloc, &chi, 1), 1, 3, "0+0"),
+            ),
+            (
+                "a chirotope, 4 contracted",
+                is_chirotope(contract_chirotope(alloc, &chi, 4), 2, 3, "0++"),
+            ),
+            (
+                "a chirotope, 1 reoriented",
+                is_map(&reorient_chirotope(chi, 0b1).into_raw(), 2, 4, "0+0-00"),
+            ),
+        ],
+    );
 }
 
 /// Whether there is a chirotope of one element, and this is why there is no deletion and no contraction of 1.
@@ -79,25 +80,26 @@ fn of_circuits<R: Abort>(rt: &R, alloc: Global, found: Result<Circuits, SampleEr
     requires { IfOk found (λ c. c.0.elements ≡ 4) }
 {
     let circuits = found.expect(rt, "circuits");
-    for (case, holds) in [
-        (
-            "1 deleted",
-            are_circuits(delete_circuits(alloc, &circuits, 1), "00+ 00-"),
-        ),
-        (
-            "1 contracted",
-            are_circuits(contract_circuits(alloc, &circuits, 1), "-00 +00 00+ 00-"),
-        ),
-        (
-            "1 and 4 reoriented",
-            are_vectors(
-                reorient_circuits(circuits, 0b1001).0.members(),
-                "--00 ++00 000+ 000-",
+    hold(
+        rt,
+        &[
+            (
+                "circuits, 1 deleted",
+                are_circuits(delete_circuits(alloc, &circuits, 1), "00+ 00-"),
             ),
-        ),
-    ] {
-        assert!(rt; holds, "circuits, {case}");
-    }
+            (
+                "circuits, 1 contracted",
+                are_circuits(contract_circuits(alloc, &circuits, 1), "-00 +00 00+ 00-"),
+            ),
+            (
+                "circuits, 1 and 4 reoriented",
+                are_vectors(
+                    reorient_circuits(circuits, 0b1001).0.members(),
+                    "--00 ++00 000+ 000-",
+                ),
+            ),
+        ],
+    );
 }
 
 /// Asserts that the deletion and the contraction of 1 and the reorientation on 2 have the cocircuits computed by hand.
@@ -105,25 +107,26 @@ fn of_cocircuits<R: Abort>(rt: &R, alloc: Global, found: Result<Cocircuits, Samp
     requires { IfOk found (λ c. c.0.elements ≡ 4) }
 {
     let cocircuits = found.expect(rt, "cocircuits");
-    for (case, holds) in [
-        (
-            "1 deleted",
-            are_cocircuits(delete_cocircuits(alloc, &cocircuits, 1), "+00 -00 0+0 0-0"),
-        ),
-        (
-            "1 contracted",
-            are_cocircuits(contract_cocircuits(alloc, &cocircuits, 1), "0+0 0-0"),
-        ),
-        (
-            "2 reoriented",
-            are_vectors(
-                reorient_cocircuits(cocircuits, 0b10).0.members(),
-                "+-00 -+00 00+0 00-0",
+    hold(
+        rt,
+        &[
+            (
+                "cocircuits, 1 deleted",
+                are_cocircuits(delete_cocircuits(alloc, &cocircuits, 1), "+00 -00 0+0 0-0"),
             ),
-        ),
-    ] {
-        assert!(rt; holds, "cocircuits, {case}");
-    }
+            (
+                "cocircuits, 1 contracted",
+                are_cocircuits(contract_cocircuits(alloc, &cocircuits, 1), "0+0 0-0"),
+            ),
+            (
+                "cocircuits, 2 reoriented",
+                are_vectors(
+                    reorient_cocircuits(cocircuits, 0b10).0.members(),
+                    "+-00 -+00 00+0 00-0",
+                ),
+            ),
+        ],
+    );
 }
 
 /// Asserts that the minors and the reorientation on 2 and 3 have the covectors computed by hand, with the deletion of
@@ -132,25 +135,26 @@ fn of_covectors<R: Abort>(rt: &R, alloc: Global, found: Result<Covectors, Sample
     requires { IfOk found (λ c. c.elements ≡ 4) }
 {
     let covectors = found.expect(rt, "covectors");
-    for (case, holds) in [
-        (
-            "3 deleted",
-            are_covectors(delete_covectors(alloc, &covectors, 3), "000 ++0 --0"),
-        ),
-        (
-            "1 contracted",
-            are_covectors(contract_covectors(alloc, &covectors, 1), "000 0+0 0-0"),
-        ),
-        (
-            "2 and 3 reoriented",
-            are_vectors(
-                reorient_covectors(covectors, 0b110).members(),
-                "0000 +-00 -+00 00+0 00-0 +-+0 +--0 -++0 -+-0",
+    hold(
+        rt,
+        &[
+            (
+                "covectors, 3 deleted",
+                are_covectors(delete_covectors(alloc, &covectors, 3), "000 ++0 --0"),
             ),
-        ),
-    ] {
-        assert!(rt; holds, "covectors, {case}");
-    }
+            (
+                "covectors, 1 contracted",
+                are_covectors(contract_covectors(alloc, &covectors, 1), "000 0+0 0-0"),
+            ),
+            (
+                "covectors, 2 and 3 reoriented",
+                are_vectors(
+                    reorient_covectors(covectors, 0b110).members(),
+                    "0000 +-00 -+00 00+0 00-0 +-+0 +--0 -++0 -+-0",
+                ),
+            ),
+        ],
+    );
 }
 
 #[test]

@@ -2,6 +2,7 @@
 
 ghost use Rattle.std.specs.Prelude.{◌≡◌, IfOk};
 
+use super::helpers::hold;
 use super::wiring::sweep_of;
 use om_chirotope::Chirotope;
 use om_mutate::{BadFlip, FlipRefused, NotTriangle, flip, flip_wiring};
@@ -71,43 +72,44 @@ const TURNED: [Block; 6] = [SECOND, FIRST, SECOND, THIRD, SECOND, FIRST];
 fn chirotopes_and_triangles(rt: HostRuntime) {
     let alloc = rt.alloc();
     let refused = Some(FlipRefused::NotBasis);
-    for (case, holds) in [
-        (
-            "a flip of 123",
-            has_flip(chirotope_of(&rt, alloc, 3, 4, "++++"), None, "-+++"),
-        ),
-        (
-            "a triple that is no basis",
-            has_flip(chirotope_of(&rt, alloc, 3, 4, "0+++"), refused, "0+++"),
-        ),
-        (
-            "a triangle at step 1",
-            is_flipped(
-                sweep_of(alloc, chirotope_of(&rt, alloc, 3, 4, "++++")),
-                1,
-                true,
-                &TURNED,
+    hold(
+        &rt,
+        &[
+            (
+                "a flip of 123",
+                has_flip(chirotope_of(&rt, alloc, 3, 4, "++++"), None, "-+++"),
             ),
-        ),
-        (
-            "no triangle at step 4",
-            is_flipped(
-                sweep_of(alloc, chirotope_of(&rt, alloc, 3, 4, "++++")),
-                4,
-                false,
-                &KEPT,
+            (
+                "a triple that is no basis",
+                has_flip(chirotope_of(&rt, alloc, 3, 4, "0+++"), refused, "0+++"),
             ),
-        ),
-        (
-            "too few steps behind step 5",
-            is_flipped(
-                sweep_of(alloc, chirotope_of(&rt, alloc, 3, 4, "++++")),
-                5,
-                false,
-                &KEPT,
+            (
+                "a triangle at step 1",
+                is_flipped(
+                    sweep_of(alloc, chirotope_of(&rt, alloc, 3, 4, "++++")),
+                    1,
+                    true,
+                    &TURNED,
+                ),
             ),
-        ),
-    ] {
-        assert!(rt; holds, "{case}");
-    }
+            (
+                "no triangle at step 4",
+                is_flipped(
+                    sweep_of(alloc, chirotope_of(&rt, alloc, 3, 4, "++++")),
+                    4,
+                    false,
+                    &KEPT,
+                ),
+            ),
+            (
+                "too few steps behind step 5",
+                is_flipped(
+                    sweep_of(alloc, chirotope_of(&rt, alloc, 3, 4, "++++")),
+                    5,
+                    false,
+                    &KEPT,
+                ),
+            ),
+        ],
+    );
 }

@@ -1,5 +1,6 @@
 //! One oriented matroid in three representations, and two that differ.
 
+use super::helpers::hold;
 use om_oriented::{Differ, Oriented, same};
 use om_samples::{SampleError, chirotope_of, circuits_of, cocircuits_of, covectors_of, vector_of};
 
@@ -25,18 +26,19 @@ fn is_told_apart<M: Oriented + Drop>(found: Result<M, SampleError>) -> bool {
 #[test]
 fn covectors_of_each_kind(rt: HostRuntime) {
     let alloc = rt.alloc();
-    for (case, holds) in [
-        (
-            "chirotope",
-            is_told_apart(chirotope_of(&rt, alloc, 3, 4, "++++")),
-        ),
-        (
-            "circuits",
-            is_told_apart(circuits_of(&rt, alloc, 4, &CIRCUITS)),
-        ),
-    ] {
-        assert!(rt; holds, "{case}");
-    }
+    hold(
+        &rt,
+        &[
+            (
+                "chirotope",
+                is_told_apart(chirotope_of(&rt, alloc, 3, 4, "++++")),
+            ),
+            (
+                "circuits",
+                is_told_apart(circuits_of(&rt, alloc, 4, &CIRCUITS)),
+            ),
+        ],
+    );
 }
 
 /// Whether there are two oriented matroids with the same number of elements, and they compare like this in both
@@ -66,49 +68,50 @@ fn compare<A: Oriented + Drop, B: Oriented + Drop>(
 #[test]
 fn sameness_and_first_difference(rt: HostRuntime) {
     let alloc = rt.alloc();
-    for (case, holds) in [
-        // the circuits are those of the first chirotope
-        (
-            "the same",
-            compare(
-                chirotope_of(&rt, alloc, 3, 4, "++++"),
-                circuits_of(&rt, alloc, 4, &CIRCUITS),
-                Ok(()),
+    hold(
+        &rt,
+        &[
+            // the circuits are those of the first chirotope
+            (
+                "the same",
+                compare(
+                    chirotope_of(&rt, alloc, 3, 4, "++++"),
+                    circuits_of(&rt, alloc, 4, &CIRCUITS),
+                    Ok(()),
+                ),
             ),
-        ),
-        // the vectors `----`, `---0` and `---+` are orthogonal to the circuits of both, and `--0-` only to `-+-+`,
-        // which is one of the second
-        (
-            "another sign",
-            compare(
-                chirotope_of(&rt, alloc, 3, 4, "+++-"),
-                circuits_of(&rt, alloc, 4, &CIRCUITS),
-                Err(Differ {
-                    x: vector_of(4, "--0-"),
-                }),
+            // the vectors `----`, `---0` and `---+` are orthogonal to the circuits of both, and `--0-` only to `-+-+`,
+            // which is one of the second
+            (
+                "another sign",
+                compare(
+                    chirotope_of(&rt, alloc, 3, 4, "+++-"),
+                    circuits_of(&rt, alloc, 4, &CIRCUITS),
+                    Err(Differ {
+                        x: vector_of(4, "--0-"),
+                    }),
+                ),
             ),
-        ),
-        // of two elements that are both loops only `00` is a covector; of two elements that are no loops, each
-        // vector is one
-        (
-            "loops and no loops",
-            compare(
-                cocircuits_of(&rt, alloc, 2, &["-0", "0-", "0+", "+0"]),
-                covectors_of(&rt, alloc, 2, &["00"]),
-                Err(Differ {
-                    x: vector_of(2, "--"),
-                }),
+            // of two elements that are both loops only `00` is a covector; of two elements that are no loops, each
+            // vector is one
+            (
+                "loops and no loops",
+                compare(
+                    cocircuits_of(&rt, alloc, 2, &["-0", "0-", "0+", "+0"]),
+                    covectors_of(&rt, alloc, 2, &["00"]),
+                    Err(Differ {
+                        x: vector_of(2, "--"),
+                    }),
+                ),
             ),
-        ),
-        (
-            "a copy",
-            compare(
-                covectors_of(&rt, alloc, 2, &["00"]),
-                covectors_of(&rt, alloc, 2, &["00"]),
-                Ok(()),
+            (
+                "a copy",
+                compare(
+                    covectors_of(&rt, alloc, 2, &["00"]),
+                    covectors_of(&rt, alloc, 2, &["00"]),
+                    Ok(()),
+                ),
             ),
-        ),
-    ] {
-        assert!(rt; holds, "{case}");
-    }
+        ],
+    );
 }

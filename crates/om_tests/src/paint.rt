@@ -2,6 +2,7 @@
 
 ghost use Rattle.std.specs.Prelude.{◌≡◌, IfOk};
 
+use super::helpers::hold;
 use om_chirotope::Chirotope;
 use om_paint::{Colour, HullError, Painted, acyclic, hull, paint};
 use om_samples::{SampleError, chirotope_of, vector_of};
@@ -50,27 +51,28 @@ fn has_hull(alloc: Global, chi: Result<Chirotope, SampleError>, first: &str, sec
 #[test]
 fn paintings_and_hulls(rt: HostRuntime) {
     let alloc = rt.alloc();
-    for (case, holds) in [
-        // a cocircuit that fits is zero on black, that is at 2 and 3
-        (
-            "a painting",
-            is_painted(chirotope_of(&rt, alloc, 3, 4, "++++"), "+00+"),
-        ),
-        (
-            "acyclic",
-            is_acyclic(chirotope_of(&rt, alloc, 2, 2, "+"), true),
-        ),
-        // the circuit is all plus
-        (
-            "cyclic",
-            is_acyclic(chirotope_of(&rt, alloc, 3, 4, "+-+-"), false),
-        ),
-        // each of two elements that form a basis has a cocircuit that is minus at it and zero at the other one
-        (
-            "a hull",
-            has_hull(alloc, chirotope_of(&rt, alloc, 2, 2, "+"), "-0", "0-"),
-        ),
-    ] {
-        assert!(rt; holds, "{case}");
-    }
+    hold(
+        &rt,
+        &[
+            // a cocircuit that fits is zero on black, that is at 2 and 3
+            (
+                "a painting",
+                is_painted(chirotope_of(&rt, alloc, 3, 4, "++++"), "+00+"),
+            ),
+            (
+                "acyclic",
+                is_acyclic(chirotope_of(&rt, alloc, 2, 2, "+"), true),
+            ),
+            // the circuit is all plus
+            (
+                "cyclic",
+                is_acyclic(chirotope_of(&rt, alloc, 3, 4, "+-+-"), false),
+            ),
+            // each of two elements that form a basis has a cocircuit that is minus at it and zero at the other one
+            (
+                "a hull",
+                has_hull(alloc, chirotope_of(&rt, alloc, 2, 2, "+"), "-0", "0-"),
+            ),
+        ],
+    );
 }

@@ -2,6 +2,7 @@
 
 ghost use Rattle.std.specs.Prelude.{◌≡◌, ◌⊎◌, ◌/◌};
 
+use super::helpers::hold;
 use om_parallel::{Part, Probe, first_bad, first_bad_by_cost, map_parts, map_parts_by_cost};
 use om_signs::NoMemory;
 use std::alloc::Global;
@@ -154,15 +155,16 @@ fn is_late<R: Threads + Sync>(rt: &R, alloc: Global, turns: u64, cost: u64, late
 #[test]
 fn little_work_starts_no_thread_and_much_is_shared(rt: HostRuntime) {
     let alloc = rt.alloc();
-    for (case, holds) in [
-        ("little work", is_late(&rt, alloc, FEW_TURNS, 10, true)),
-        (
-            "much work",
-            is_late(&rt, alloc, MOST_TURNS, u64::MAX, false),
-        ),
-    ] {
-        assert!(rt; holds, "{case}");
-    }
+    hold(
+        &rt,
+        &[
+            ("little work", is_late(&rt, alloc, FEW_TURNS, 10, true)),
+            (
+                "much work",
+                is_late(&rt, alloc, MOST_TURNS, u64::MAX, false),
+            ),
+        ],
+    );
 }
 
 // The least bad number is the same whatever the numbers cost.
@@ -192,22 +194,23 @@ fn are_many(found: Result<Vec<u64>, NoMemory>, first: u64, last: u64) -> bool {
 #[test]
 fn parts_in_order(rt: HostRuntime) {
     let alloc = rt.alloc();
-    for (case, holds) in [
-        (
-            "five parts",
-            are_answers(map_parts(&rt, alloc, &Halves, 5), &[0, 0, 1, 1, 2]),
-        ),
-        (
-            "no parts",
-            are_answers(map_parts(&rt, alloc, &Halves, 0), &[]),
-        ),
-        (
-            "20,000 parts",
-            are_many(map_parts(&rt, alloc, &Halves, 20_000), 0, 9_999),
-        ),
-    ] {
-        assert!(rt; holds, "{case}");
-    }
+    hold(
+        &rt,
+        &[
+            (
+                "five parts",
+                are_answers(map_parts(&rt, alloc, &Halves, 5), &[0, 0, 1, 1, 2]),
+            ),
+            (
+                "no parts",
+                are_answers(map_parts(&rt, alloc, &Halves, 0), &[]),
+            ),
+            (
+                "20,000 parts",
+                are_many(map_parts(&rt, alloc, &Halves, 20_000), 0, 9_999),
+            ),
+        ],
+    );
 }
 
 // The results are the same whatever they cost.

@@ -2,6 +2,7 @@
 
 ghost use Rattle.std.specs.Prelude.{◌≡◌, ◌≤◌, IfOk};
 
+use super::helpers::hold;
 use super::maps::word_of;
 use om_chirotope::Chirotope;
 use om_points::search;
@@ -30,32 +31,33 @@ fn found_and_not(rt: HostRuntime) {
     let before = Unfound::Frontier(word_of(&[[1, -1, 0]]));
     let last = Unfound::Frontier(word_of(&[[1, 1, 0]]));
     let five = "++++++++++";
-    for (case, holds) in [
-        (
-            "a basis",
-            finds(chirotope_of(&rt, alloc, 3, 3, "+"), 1, Ok(three)),
-        ),
-        (
-            "four, at step 20",
-            finds(chirotope_of(&rt, alloc, 3, 4, "++++"), 20, Ok(four)),
-        ),
-        (
-            "four, a step too few",
-            finds(chirotope_of(&rt, alloc, 3, 4, "++++"), 19, Err(before)),
-        ),
-        (
-            "five, exhausted",
-            finds(
-                chirotope_of(&rt, alloc, 3, 5, five),
-                52,
-                Err(Unfound::Exhausted),
+    hold(
+        &rt,
+        &[
+            (
+                "a basis",
+                finds(chirotope_of(&rt, alloc, 3, 3, "+"), 1, Ok(three)),
             ),
-        ),
-        (
-            "five, a step too few",
-            finds(chirotope_of(&rt, alloc, 3, 5, five), 51, Err(last)),
-        ),
-    ] {
-        assert!(rt; holds, "{case}");
-    }
+            (
+                "four, at step 20",
+                finds(chirotope_of(&rt, alloc, 3, 4, "++++"), 20, Ok(four)),
+            ),
+            (
+                "four, a step too few",
+                finds(chirotope_of(&rt, alloc, 3, 4, "++++"), 19, Err(before)),
+            ),
+            (
+                "five, exhausted",
+                finds(
+                    chirotope_of(&rt, alloc, 3, 5, five),
+                    52,
+                    Err(Unfound::Exhausted),
+                ),
+            ),
+            (
+                "five, a step too few",
+                finds(chirotope_of(&rt, alloc, 3, 5, five), 51, Err(last)),
+            ),
+        ],
+    );
 }

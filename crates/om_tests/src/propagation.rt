@@ -2,7 +2,7 @@
 
 ghost use Rattle.std.specs.Prelude.{◌≡◌, IfOk};
 
-use super::helpers::is_chirotope;
+use super::helpers::{hold, is_chirotope};
 use om_circuits::{Circuits, Cocircuits};
 use om_convert::{
     chirotope_of_circuits, chirotope_of_cocircuits, rank_circuits, rank_cocircuits, rank_covectors,
@@ -49,29 +49,30 @@ fn of_covectors(found: Result<Covectors, SampleError>, rank: u8) -> bool {
 #[test]
 fn of_each_kind(rt: HostRuntime) {
     let alloc = rt.alloc();
-    for (case, holds) in [
-        (
-            "circuits",
-            of_circuits(
-                alloc,
-                circuits_of(&rt, alloc, 4, &["+-00", "-+00", "000+", "000-"]),
-                "0+0+00",
+    hold(
+        &rt,
+        &[
+            (
+                "circuits",
+                of_circuits(
+                    alloc,
+                    circuits_of(&rt, alloc, 4, &["+-00", "-+00", "000+", "000-"]),
+                    "0+0+00",
+                ),
             ),
-        ),
-        (
-            "cocircuits",
-            of_cocircuits(
-                alloc,
-                cocircuits_of(&rt, alloc, 4, &["++00", "--00", "00+0", "00-0"]),
-                "0+0+00",
+            (
+                "cocircuits",
+                of_cocircuits(
+                    alloc,
+                    cocircuits_of(&rt, alloc, 4, &["++00", "--00", "00+0", "00-0"]),
+                    "0+0+00",
+                ),
             ),
-        ),
-        // the only pair of opposite covectors
-        (
-            "covectors",
-            of_covectors(covectors_of(&rt, alloc, 3, &["000", "+-0", "-+0"]), 1),
-        ),
-    ] {
-        assert!(rt; holds, "{case}");
-    }
+            // the only pair of opposite covectors
+            (
+                "covectors",
+                of_covectors(covectors_of(&rt, alloc, 3, &["000", "+-0", "-+0"]), 1),
+            ),
+        ],
+    );
 }

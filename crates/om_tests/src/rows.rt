@@ -2,6 +2,7 @@
 
 ghost use Rattle.std.specs.Prelude.{◌≡◌, ◌≤◌, ◌<◌, length};
 
+use super::helpers::hold;
 use om_rows::{Column, Wide, are_short, combine, compare_ratios, dot, gcd, is_short, primitive};
 use om_signs::MAX_ROWS;
 use std::cmp::Ordering;
@@ -79,55 +80,57 @@ fn combinations(rt: HostRuntime) {
     let past = SHORT_MAX + 1;
     let greatest = MAX - SHORT_MAX;
     let least = MIN + 27_670_116_110_564_327_423;
-    for (case, holds) in [
-        (
-            "small numbers",
-            is_combined(2, &mut [6, 4, 9], 3, &[1, 2, 3], 0, &[9, 2, 9]),
-        ),
-        (
-            "one too wide",
-            is_combined(2, &mut [1 << 126], 0, &[0], 1, &[1 << 126]),
-        ),
-        (
-            "the second too wide",
-            is_combined(1, &mut [0, MAX, MAX], -1, &[MAX, 1, 1], 2, &[0, MAX, MAX]),
-        ),
-        (
-            "at the limit of 64 bits",
-            is_combined(
-                SHORT_MIN,
-                &mut [SHORT_MIN, SHORT_MAX],
-                SHORT_MAX,
-                &[SHORT_MIN, SHORT_MAX],
-                0,
-                &[greatest, least],
+    hold(
+        &rt,
+        &[
+            (
+                "small numbers",
+                is_combined(2, &mut [6, 4, 9], 3, &[1, 2, 3], 0, &[9, 2, 9]),
             ),
-        ),
-        (
-            "past it",
-            is_combined(past, &mut [past], SHORT_MAX, &[SHORT_MIN], 0, &[greatest]),
-        ),
-        (
-            "past it and too wide",
-            is_combined(past, &mut [past], SHORT_MIN, &[past], 1, &[past]),
-        ),
-    ] {
-        assert!(rt; holds, "{case}");
-    }
+            (
+                "one too wide",
+                is_combined(2, &mut [1 << 126], 0, &[0], 1, &[1 << 126]),
+            ),
+            (
+                "the second too wide",
+                is_combined(1, &mut [0, MAX, MAX], -1, &[MAX, 1, 1], 2, &[0, MAX, MAX]),
+            ),
+            (
+                "at the limit of 64 bits",
+                is_combined(
+                    SHORT_MIN,
+                    &mut [SHORT_MIN, SHORT_MAX],
+                    SHORT_MAX,
+                    &[SHORT_MIN, SHORT_MAX],
+                    0,
+                    &[greatest, least],
+                ),
+            ),
+            (
+                "past it",
+                is_combined(past, &mut [past], SHORT_MAX, &[SHORT_MIN], 0, &[greatest]),
+            ),
+            (
+                "past it and too wide",
+                is_combined(past, &mut [past], SHORT_MIN, &[past], 1, &[past]),
+            ),
+        ],
+    );
 }
 
 #[test]
 fn short_numbers(rt: HostRuntime) {
-    for (case, holds) in [
-        ("greatest", is_short(SHORT_MAX)),
-        ("least", is_short(SHORT_MIN)),
-        ("a row", are_short(&[SHORT_MIN, 0, SHORT_MAX])),
-        ("past the greatest", !is_short(SHORT_MAX + 1)),
-        ("past the least", !is_short(SHORT_MIN - 1)),
-        ("a row with one past it", !are_short(&[0, MIN])),
-    ] {
-        assert!(rt; holds, "{case}");
-    }
+    hold(
+        &rt,
+        &[
+            ("greatest", is_short(SHORT_MAX)),
+            ("least", is_short(SHORT_MIN)),
+            ("a row", are_short(&[SHORT_MIN, 0, SHORT_MAX])),
+            ("past the greatest", !is_short(SHORT_MAX + 1)),
+            ("past the least", !is_short(SHORT_MIN - 1)),
+            ("a row with one past it", !are_short(&[0, MIN])),
+        ],
+    );
 }
 
 /// Whether a row divided by the greatest common divisor of its numbers is this one.
@@ -139,19 +142,20 @@ fn is_primitive(row: &mut [i128], expected: &[i128]) -> bool {
 // of rows, and of pairs of numbers
 #[test]
 fn divisors(rt: HostRuntime) {
-    for (case, holds) in [
-        (
-            "small numbers",
-            is_primitive(&mut [12, -18, 0, 30], &[2, -3, 0, 5]),
-        ),
-        ("zeros", is_primitive(&mut [0, 0], &[0, 0])),
-        (
-            "least numbers",
-            is_primitive(&mut [MIN, 0, MIN], &[-1, 0, -1]),
-        ),
-    ] {
-        assert!(rt; holds, "{case}");
-    }
+    hold(
+        &rt,
+        &[
+            (
+                "small numbers",
+                is_primitive(&mut [12, -18, 0, 30], &[2, -3, 0, 5]),
+            ),
+            ("zeros", is_primitive(&mut [0, 0], &[0, 0])),
+            (
+                "least numbers",
+                is_primitive(&mut [MIN, 0, MIN], &[-1, 0, -1]),
+            ),
+        ],
+    );
     let greatest = [
         gcd(12, 18),
         gcd(18, 12),

@@ -1,6 +1,6 @@
 //! Samples that are what their texts spell, and texts that spell none.
 
-use super::helpers::{are_found, is_chirotope};
+use super::helpers::{are_found, hold, is_chirotope};
 use om_samples::{
     SampleError, chirotope_of, circuits_of, covectors_of, sign_of, vector_of, vectors_of,
 };
@@ -41,36 +41,37 @@ fn is_refused<T: Drop>(found: Result<T, SampleError>) -> bool {
 #[test]
 fn refused(rt: HostRuntime) {
     let alloc = rt.alloc();
-    for (case, holds) in [
-        (
-            "a sign too few",
-            is_refused(chirotope_of(&rt, alloc, 2, 3, "+-")),
-        ),
-        (
-            "no basis",
-            is_refused(chirotope_of(&rt, alloc, 2, 3, "000")),
-        ),
-        (
-            "a rank above the elements",
-            is_refused(chirotope_of(&rt, alloc, 4, 3, "")),
-        ),
-        (
-            "no element",
-            is_refused(chirotope_of(&rt, alloc, 0, 0, "+")),
-        ),
-        (
-            "no zero vector",
-            is_refused(covectors_of(&rt, alloc, 2, &["++", "--"])),
-        ),
-        (
-            "no negative",
-            is_refused(circuits_of(&rt, alloc, 2, &["++"])),
-        ),
-        (
-            "an element too many",
-            is_refused(vectors_of(alloc, 21, &[])),
-        ),
-    ] {
-        assert!(rt; holds, "{case}");
-    }
+    hold(
+        &rt,
+        &[
+            (
+                "a sign too few",
+                is_refused(chirotope_of(&rt, alloc, 2, 3, "+-")),
+            ),
+            (
+                "no basis",
+                is_refused(chirotope_of(&rt, alloc, 2, 3, "000")),
+            ),
+            (
+                "a rank above the elements",
+                is_refused(chirotope_of(&rt, alloc, 4, 3, "")),
+            ),
+            (
+                "no element",
+                is_refused(chirotope_of(&rt, alloc, 0, 0, "+")),
+            ),
+            (
+                "no zero vector",
+                is_refused(covectors_of(&rt, alloc, 2, &["++", "--"])),
+            ),
+            (
+                "no negative",
+                is_refused(circuits_of(&rt, alloc, 2, &["++"])),
+            ),
+            (
+                "an element too many",
+                is_refused(vectors_of(alloc, 21, &[])),
+            ),
+        ],
+    );
 }

@@ -1,6 +1,7 @@
 //! Signs, sign vectors of length two, and lists, computed by hand. The order of vectors of one length is a row of
 //! `dual`.
 
+use super::helpers::hold;
 use om_samples::vector_of;
 use om_signs::{List, NoMemory, Sign};
 
@@ -105,13 +106,14 @@ fn lists(rt: HostRuntime) {
     set_first(&mut bytes, 3);
     let second = bytes.push(2).is_ok();
     let numbers: List<u32> = bytes.empty_like();
-    for (case, holds) in [
-        ("a first byte", first),
-        ("a copy of it", copied),
-        ("a second byte", second),
-        ("both bytes", bytes.as_slice() == [3, 2].as_slice()),
-        ("an empty list", numbers.len() == 0),
-    ] {
-        assert!(rt; holds, "{case}");
-    }
+    hold(
+        &rt,
+        &[
+            ("a first byte", first),
+            ("a copy of it", copied),
+            ("a second byte", second),
+            ("both bytes", bytes.as_slice() == [3, 2].as_slice()),
+            ("an empty list", numbers.len() == 0),
+        ],
+    );
 }

@@ -5,6 +5,7 @@ ghost use Rattle.std.specs.Prelude.{◌≤◌, ◌-◌, IsTrue};
 ghost use Rattle.om_rows.specs.Rows.{IsPlace};
 ghost use Rattle.om_simplex.specs.States.{IsColumn};
 
+use super::helpers::hold;
 use om_rows::Column;
 use om_signs::{MAX_COLUMNS, MAX_PIVOTS, MAX_ROWS, NoMemory};
 use om_simplex::{Count, Outcome, Stage, solve};
@@ -87,31 +88,32 @@ fn ends(rt: HostRuntime) {
     };
     let around = column(1, 2, 2, 1, true);
     let (apart, back) = (column(1, 2, 3, 4, true), column(2, 2, 1, 1, true));
-    for (case, holds) in [
-        (
-            "no columns",
-            has_ended(end_of(alloc, &[], 3, 1), &[], &[1, 1], &[]),
-        ),
-        (
-            "equal sides",
-            has_ended(end_of(alloc, &[around], 3, 1), &[once], &[], &[]),
-        ),
-        (
-            "one column, one pivot",
-            has_ended(end_of(alloc, &[apart], 5, 1), &[], &[0, 1, 1, 1], &[]),
-        ),
-        (
-            "two columns, one pivot",
-            has_ended(
-                end_of(alloc, &[apart, back], 5, 1),
-                &[],
-                &[],
-                &[6, 2, 3, 4, 5],
+    hold(
+        &rt,
+        &[
+            (
+                "no columns",
+                has_ended(end_of(alloc, &[], 3, 1), &[], &[1, 1], &[]),
             ),
-        ),
-    ] {
-        assert!(rt; holds, "{case}");
-    }
+            (
+                "equal sides",
+                has_ended(end_of(alloc, &[around], 3, 1), &[once], &[], &[]),
+            ),
+            (
+                "one column, one pivot",
+                has_ended(end_of(alloc, &[apart], 5, 1), &[], &[0, 1, 1, 1], &[]),
+            ),
+            (
+                "two columns, one pivot",
+                has_ended(
+                    end_of(alloc, &[apart, back], 5, 1),
+                    &[],
+                    &[],
+                    &[6, 2, 3, 4, 5],
+                ),
+            ),
+        ],
+    );
 }
 
 /// How a column of a chain relates the place j to the next place and to the last place but one, which is called z.
@@ -200,52 +202,53 @@ fn widths(rt: HostRuntime) {
     let multiple = [step(1, 66, false), step(66, 65, true)];
     let value = [step(65, 66, true), step(66, 1, false)];
     let weight = [step(1, 101, true); 2];
-    for (case, holds) in [
-        (
-            "price",
-            is_width(
-                end_of_chain(alloc, Link::Turned, 127, true, price, 1, 127),
-                (Stage::Price, 127, 0, 127),
+    hold(
+        &rt,
+        &[
+            (
+                "price",
+                is_width(
+                    end_of_chain(alloc, Link::Turned, 127, true, price, 1, 127),
+                    (Stage::Price, 127, 0, 127),
+                ),
             ),
-        ),
-        (
-            "column",
-            is_width(
-                end_of_chain(alloc, Link::Turned, 128, false, column, 0, 128),
-                (Stage::Column, 128, 130, 127),
+            (
+                "column",
+                is_width(
+                    end_of_chain(alloc, Link::Turned, 128, false, column, 0, 128),
+                    (Stage::Column, 128, 130, 127),
+                ),
             ),
-        ),
-        (
-            "update",
-            is_width(
-                end_of_chain(alloc, Link::Doubled, 66, false, update, 0, 66),
-                (Stage::Update, 66, 0, 1),
+            (
+                "update",
+                is_width(
+                    end_of_chain(alloc, Link::Doubled, 66, false, update, 0, 66),
+                    (Stage::Update, 66, 0, 1),
+                ),
             ),
-        ),
-        (
-            "multiple",
-            is_width(
-                end_of_chain(alloc, Link::Backward, 65, false, multiple, 2, 66),
-                (Stage::Scale, 66, 0, 0),
+            (
+                "multiple",
+                is_width(
+                    end_of_chain(alloc, Link::Backward, 65, false, multiple, 2, 66),
+                    (Stage::Scale, 66, 0, 0),
+                ),
             ),
-        ),
-        (
-            "value",
-            is_width(
-                end_of_chain(alloc, Link::Doubled, 65, false, value, 0, 66),
-                (Stage::Scale, 66, 1, 0),
+            (
+                "value",
+                is_width(
+                    end_of_chain(alloc, Link::Doubled, 65, false, value, 0, 66),
+                    (Stage::Scale, 66, 1, 0),
+                ),
             ),
-        ),
-        (
-            "weight",
-            is_width(
-                end_of_chain(alloc, Link::Turned, 100, true, weight, 0, 100),
-                (Stage::Scale, 100, 0, 100),
+            (
+                "weight",
+                is_width(
+                    end_of_chain(alloc, Link::Turned, 100, true, weight, 0, 100),
+                    (Stage::Scale, 100, 0, 100),
+                ),
             ),
-        ),
-    ] {
-        assert!(rt; holds, "{case}");
-    }
+        ],
+    );
 }
 
 // One link less than in the chain whose values are too great. Of 65 columns the 64th is taken once, each one before

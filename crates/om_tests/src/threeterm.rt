@@ -2,6 +2,7 @@
 
 ghost use Rattle.std.specs.Prelude.{◌≤◌};
 
+use super::helpers::hold;
 use om_chirotope::Chirotope;
 use om_samples::map_of;
 use om_signs::MAX_ELEMENTS;
@@ -51,21 +52,22 @@ fn accepted_and_refused(rt: HostRuntime) {
         p: Subset::from_mask(0b1, 6),
         q: Subset::from_mask(0b11110, 6),
     };
-    for (case, holds) in [
-        ("accepted", is_checked(&rt, alloc, 3, 4, "++++", None)),
-        (
-            "all zero",
-            is_checked(&rt, alloc, 1, 3, "000", Some(ThreeRefused::AllZero)),
-        ),
-        (
-            "no exchange",
-            is_checked(&rt, alloc, 2, 4, "++000+", Some(exchange)),
-        ),
-        (
-            "a three-term relation",
-            is_checked(&rt, alloc, 3, 6, "+++++-++++++++++++++", Some(relation)),
-        ),
-    ] {
-        assert!(rt; holds, "{case}");
-    }
+    hold(
+        &rt,
+        &[
+            ("accepted", is_checked(&rt, alloc, 3, 4, "++++", None)),
+            (
+                "all zero",
+                is_checked(&rt, alloc, 1, 3, "000", Some(ThreeRefused::AllZero)),
+            ),
+            (
+                "no exchange",
+                is_checked(&rt, alloc, 2, 4, "++000+", Some(exchange)),
+            ),
+            (
+                "a three-term relation",
+                is_checked(&rt, alloc, 3, 6, "+++++-++++++++++++++", Some(relation)),
+            ),
+        ],
+    );
 }

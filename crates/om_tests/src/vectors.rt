@@ -1,6 +1,7 @@
 //! Vectors at the limit and lists of vectors. The signs of vectors are rows of `convert`, and whether they realize a
 //! chirotope rows of `check`.
 
+use super::helpers::hold;
 use super::maps::word_of;
 use om_signs::MAX_COORDINATE;
 use om_vectors::{Unfound, Vector, Word, triple};
@@ -15,23 +16,24 @@ fn is_vector(x: i64, y: i64, z: i64) -> bool {
 
 #[test]
 fn coordinates(rt: HostRuntime) {
-    for (case, holds) in [
-        (
-            "at the limit",
-            is_vector(MAX_COORDINATE, -MAX_COORDINATE, 0),
-        ),
-        (
-            "at the limit twice",
-            is_vector(-MAX_COORDINATE, MAX_COORDINATE, MAX_COORDINATE),
-        ),
-        ("x past it", Vector::new(1_099_511_627_777, 0, 0).is_none()),
-        ("y past it", Vector::new(0, -1_099_511_627_777, 0).is_none()),
-        ("z past it", Vector::new(0, 0, 1_099_511_627_777).is_none()),
-        ("the least number", Vector::new(0, 0, i64::MIN).is_none()),
-        ("the greatest number", Vector::new(i64::MAX, 0, 0).is_none()),
-    ] {
-        assert!(rt; holds, "{case}");
-    }
+    hold(
+        &rt,
+        &[
+            (
+                "at the limit",
+                is_vector(MAX_COORDINATE, -MAX_COORDINATE, 0),
+            ),
+            (
+                "at the limit twice",
+                is_vector(-MAX_COORDINATE, MAX_COORDINATE, MAX_COORDINATE),
+            ),
+            ("x past it", Vector::new(1_099_511_627_777, 0, 0).is_none()),
+            ("y past it", Vector::new(0, -1_099_511_627_777, 0).is_none()),
+            ("z past it", Vector::new(0, 0, 1_099_511_627_777).is_none()),
+            ("the least number", Vector::new(0, 0, i64::MIN).is_none()),
+            ("the greatest number", Vector::new(i64::MAX, 0, 0).is_none()),
+        ],
+    );
 }
 
 /// Whether three vectors have this triple product.
@@ -45,19 +47,20 @@ fn is_product(rows: &[[i64; 3]], product: i128) -> bool {
 fn greatest_triple_products(rt: HostRuntime) {
     let m = MAX_COORDINATE;
     let four = 5_316_911_983_139_663_491_615_228_241_121_378_304;
-    for (case, holds) in [
-        (
-            "greatest",
-            is_product(&[[-m, m, m], [m, -m, m], [m, m, -m]], four),
-        ),
-        (
-            "least",
-            is_product(&[[m, -m, m], [-m, m, m], [m, m, -m]], -four),
-        ),
-        ("zero", is_product(&[[-m, m, m], [m, -m, m], [-m, m, m]], 0)),
-    ] {
-        assert!(rt; holds, "{case}");
-    }
+    hold(
+        &rt,
+        &[
+            (
+                "greatest",
+                is_product(&[[-m, m, m], [m, -m, m], [m, m, -m]], four),
+            ),
+            (
+                "least",
+                is_product(&[[m, -m, m], [-m, m, m], [m, m, -m]], -four),
+            ),
+            ("zero", is_product(&[[-m, m, m], [m, -m, m], [-m, m, m]], 0)),
+        ],
+    );
 }
 
 /// The first vectors of three, followed by another.
@@ -74,24 +77,25 @@ fn after_cut(len: u8, x: i64, y: i64, z: i64) -> Word {
 
 #[test]
 fn words(rt: HostRuntime) {
-    for (case, holds) in [
-        (
-            "after one",
-            after_cut(1, -4, 5, 6) == word_of(&[[1, 2, 3], [-4, 5, 6]]),
-        ),
-        (
-            "after two",
-            after_cut(2, 1, 2, 3) == word_of(&[[1, 2, 3], [-4, 5, 6], [1, 2, 3]]),
-        ),
-        (
-            "after none",
-            after_cut(0, 7, 8, 9).as_slice() == word_of(&[[7, 8, 9]]).as_slice(),
-        ),
-        (
-            "frontier and exhausted",
-            Unfound::Frontier(Word::new()) != Unfound::Exhausted,
-        ),
-    ] {
-        assert!(rt; holds, "{case}");
-    }
+    hold(
+        &rt,
+        &[
+            (
+                "after one",
+                after_cut(1, -4, 5, 6) == word_of(&[[1, 2, 3], [-4, 5, 6]]),
+            ),
+            (
+                "after two",
+                after_cut(2, 1, 2, 3) == word_of(&[[1, 2, 3], [-4, 5, 6], [1, 2, 3]]),
+            ),
+            (
+                "after none",
+                after_cut(0, 7, 8, 9).as_slice() == word_of(&[[7, 8, 9]]).as_slice(),
+            ),
+            (
+                "frontier and exhausted",
+                Unfound::Frontier(Word::new()) != Unfound::Exhausted,
+            ),
+        ],
+    );
 }

@@ -2,7 +2,7 @@
 
 ghost use Rattle.std.specs.Prelude.{◌≡◌, IfOk};
 
-use super::helpers::is_chirotope;
+use super::helpers::{hold, is_chirotope};
 use om_chirotope::Chirotope;
 use om_samples::{SampleError, chirotope_of, vector_of};
 use om_signs::{Block, List, Sign};
@@ -60,16 +60,17 @@ fn is_of_four<R: Abort>(
     blocks: &[Block],
 ) {
     let w = found.expect(rt, "a wiring diagram");
-    for (case, holds) in [
-        ("wires", w.elements() == 4),
-        ("chirotope", is_chirotope(chirotope(alloc, &w), 3, 4, text)),
-        (
-            "blocks",
-            is_checked(check(4, w.into_blocks()), None, blocks),
-        ),
-    ] {
-        assert!(rt; holds, "{case}");
-    }
+    hold(
+        rt,
+        &[
+            ("wires", w.elements() == 4),
+            ("chirotope", is_chirotope(chirotope(alloc, &w), 3, 4, text)),
+            (
+                "blocks",
+                is_checked(check(4, w.into_blocks()), None, blocks),
+            ),
+        ],
+    );
 }
 
 /// The wires 1, 2 and 3 cross at once, before each of them crosses 4.
