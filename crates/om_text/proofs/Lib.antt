@@ -19,6 +19,7 @@ pub mod Forms
 pub mod Joined
 pub mod Small
 pub mod PartSteps
+pub mod PointLines
 mod Samples
 mod ListSamples
 mod SettingSamples

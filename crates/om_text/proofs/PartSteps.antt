@@ -3,7 +3,7 @@
 -- Main definitions: list_with_line
 -- Main results: memory_out, point_unread, point_beyond, point_added, word_refused, block_added, list_step,
 -- signs_counted, no_signs_counted, no_values_read, values_beyond, values_added, still_refused, names_taken,
--- no_names_taken, name_refused, all_names, names_missing, closed, not_closed
+-- no_names_taken, name_refused, names_counted, closed, not_closed
 use Rattle.std.proofs.Common.{◌≡◌, ℕ, ◌+◌, ◌<◌, ◌≤◌, List, [], ◌∷◌, ◌++◌, Bool, true, false, cond, length, refl}
 use Rattle.std.proofs.Common.{sym, ap, subst, ◌∙◌, append_assoc, append-nil, arith, inl, inr}
 use Rattle.std.specs.Prelude.{ℤ, Option, Some, None, Result, Ok, Err, IsOkAnd, IsErrAnd, MatchResult, nat_eq, nat_le}
@@ -11,7 +11,7 @@ use Rattle.std.specs.Prelude.{◌&&◌, ◌≢◌}
 use Rattle.std.specs.Result.{result_map_both}
 use Rattle.std.specs.List.{concat, list_all}
 use Rattle.std.proofs.Math.Bool.{and-false}
-use Rattle.std.proofs.lemmas.Bool.{le-leb, lt-leb, leb-false, eq-eqb, ne_eqb, cases_Bool}
+use Rattle.std.proofs.lemmas.Bool.{le-leb, lt-leb, leb-false, eq-eqb, ne_eqb, eqb-true, eqb-false, cases_Bool}
 use Rattle.std.proofs.lemmas.List.{length_push, length-append, length-map}
 use Rattle.std.proofs.lemmas.List.Folds.{list_all-append}
 use Rattle.om_signs.specs.declared.sign.Sign.{Sign}
@@ -216,17 +216,25 @@ all_words : (ws ns rest : List (List ℕ)) → AreKept ws ns rest → rest ≡ [
 all_words ws ns rest k r = sym (k.same ∙ ap (λ x. ns ++ x) r ∙ append-nil ns)
 
 -- a name for each element, and no words are left
-pub all_names : (n m : ℕ) (ws ns rest : List (List ℕ)) → AreKept ws ns rest → rest ≡ [] → m ≡ length ns → m ≡ n
+all_names : (n m : ℕ) (ws ns rest : List (List ℕ)) → AreKept ws ns rest → rest ≡ [] → m ≡ length ns → m ≡ n
     → Some ns ≡ names_in n ws
 all_names n m ws ns rest k r l e =
     subst (λ x. Some ns ≡ names_in n x) (all_words ws ns rest k r)
     (rw (eq-eqb (length ns) n (sym l ∙ e), k.names, k.different) refl)
 
 -- more or fewer names than elements, and no words are left
-pub names_missing : (n m : ℕ) (ws ns rest : List (List ℕ)) → AreKept ws ns rest → rest ≡ [] → m ≡ length ns → m ≢ n
+names_missing : (n m : ℕ) (ws ns rest : List (List ℕ)) → AreKept ws ns rest → rest ≡ [] → m ≡ length ns → m ≢ n
     → None ≡ names_in n ws
 names_missing n m ws ns rest k r l e =
     subst (λ x. None ≡ names_in n x) (all_words ws ns rest k r) (rw (ne_eqb (length ns) n (λ q. e (l ∙ q))) refl)
+
+-- no words are left: there is a name for each element, or there are more or fewer
+pub names_counted : (n m : ℕ) (ws ns rest : List (List ℕ)) → AreKept ws ns rest → rest ≡ [] → m ≡ length ns
+    → cond (nat_eq m n) (Some ns) None ≡ names_in n ws
+names_counted n m ws ns rest k r l = elim (cases_Bool (nat_eq m n)) [
+  | inl y ↦ rw y (all_names n m ws ns rest k r l (eqb-true m n y))
+  | inr f ↦ rw f (names_missing n m ws ns rest k r l (eqb-false m n f))
+]
 
 -- ---- the end line
 

@@ -1,5 +1,5 @@
 -- What the parts of the reader's code do with one more line. Not part of the definition of documents.
-use Rattle.std.specs.Prelude.{ℕ, ◌≡◌, ◌≢◌, ◌≤◌, List, [], ◌∷◌, ◌++◌, cond, nat_eq, nat_le, Bool, true, Option, Some}
+use Rattle.std.specs.Prelude.{ℕ, ℤ, ◌≡◌, ◌≢◌, ◌≤◌, List, [], ◌∷◌, ◌++◌, cond, nat_eq, nat_le, Bool, true, Option, Some}
 use Rattle.std.specs.Prelude.{None, Result, Ok, Err, length}
 use Rattle.std.specs.List.{concat}
 use Rattle.om_signs.specs.declared.limits.TheConstants.{MAX_ELEMENTS, MAX_MEMBERS}
@@ -26,6 +26,7 @@ use Rattle.om_text.specs.Reading.{with_line_members, added_body, line_tests, out
 use Rattle.om_lines.specs.Lines.{lines}
 use Rattle.om_document.specs.Blocks.{are_blocks, blocks_on}
 use Rattle.om_document.specs.Document.{are_signs}
+use Rattle.om_document.specs.Points.{coordinate}
 
 -- a part of the reader returns this value, or refuses with this code, unless memory ran out
 abbrev pub IsStepUnlessMemory : {A : Type 0} → Result A Refusal → Result A Code → Type 0
@@ -36,6 +37,16 @@ IsStepUnlessMemory (Err (refusal.Line c)) read = read ≡ Err c
 -- how many signs the words of a line have, if all their bytes are those of signs
 abbrev pub sign_count : List (List ℕ) → Option ℕ
 sign_count w = cond (are_signs w) (Some (length (concat w))) None
+
+-- a coordinate, if there is one, together with the words after it
+abbrev pub with_rest : List (List ℕ) → Option ℤ → Option (ℤ × List (List ℕ))
+with_rest w (Some x) = Some (x, w)
+with_rest w None = None
+
+-- the coordinate that the first of the words of a line spells, together with the words after it
+abbrev pub first_coordinate : List (List ℕ) → Option (ℤ × List (List ℕ))
+first_coordinate [] = None
+first_coordinate (v ∷ w) = with_rest w (coordinate v)
 
 -- the members of a list, if they are no more than allowed
 abbrev pub members_within_limit : List (List Sign) → Result (List (List Sign)) Code

@@ -1,5 +1,7 @@
-ghost use Rattle.std.specs.Prelude.{◌≡◌};
+ghost use Rattle.std.specs.Prelude.{◌≡◌, Err};
 
+use super::draft::Draft;
+use super::state::State;
 use om_document::Code;
 use om_signs::NoMemory;
 
@@ -20,4 +22,11 @@ impl From<NoMemory> for Refusal {
     fn from(_: NoMemory) -> Self {
         Refusal::Memory
     }
+}
+
+/// A line that isn't read, with which the draft ends.
+pub fn refuse(_draft: Draft, why: Refusal) -> Result<State, Refusal>
+    ensures { result ≡ Err why }
+{
+    Err(why)
 }

@@ -10,10 +10,10 @@ ghost use Rattle.om_text.specs.Reading.{after_choice, after_names, after_setting
 ghost use Rattle.om_text.specs.ReaderParts.{IsStepUnlessMemory};
 
 use super::draft::Draft;
-use super::refusal::Refusal;
+use super::refusal::{Refusal, refuse};
 use super::stage::Stage;
 use super::state::State;
-use om_document::{Body, Code, Document, Name, Setting};
+use om_document::{Body, Code, Name, Setting};
 use om_lines::lines::{first_word, is_only_word, same};
 use om_signs::{List, NoMemory};
 use std::alloc::Global;
@@ -36,23 +36,33 @@ fn has_name(names: &[Name], word: &[u8]) -> bool
     names.iter().any(|name| same(name.as_bytes(), word))
 }
 
+/// Appends the names that words spell to an empty list, up to the first word that is none or comes again. Whether the
+/// words are a name for each of this many elements, and no two of them are equal.
+fn push_names(names: &mut List<Name>, elements: u8, words: &[u8]) -> Result<bool, NoMemory>
+    requires { names.old ≡ [] }
+    ensures { IfOk result (λ named. cond named (Some names.new) None
+        ≡ cond (are_names elements (runs words.now)) (Some (runs words.now)) None) }
+{
+    let mut rest = words;
+    while let Some((word, after)) = first_word(rest) {
+        if names.len() == elements as usize || has_name(names.as_slice(), word) {
+            return Ok(false);
+        }
+        let Some(name) = Name::new(word) else {
+            return Ok(false);
+        };
+        names.push(name)?;
+        rest = after;
+    }
+    Ok(names.len() == elements as usize)
+}
+
 /// The names that words spell, if there is one for each of this many elements, and no two of them are equal.
 fn names_on(alloc: Global, elements: u8, words: &[u8]) -> Result<Option<List<Name>>, NoMemory>
     ensures { IfOk result (λ found. found ≡ cond (are_names elements (runs words.now)) (Some (runs words.now)) None) }
 {
     let mut names = List::new(alloc);
-    let mut rest = words;
-    while let Some((word, after)) = first_word(rest) {
-        if names.len() == elements as usize || has_name(names.as_slice(), word) {
-            return Ok(None);
-        }
-        let Some(name) = Name::new(word) else {
-            return Ok(None);
-        };
-        names.push(name)?;
-        rest = after;
-    }
-    if names.len() == elements as usize {
+    if push_names(&mut names, elements, words)? {
         Ok(Some(names))
     } else {
         Ok(None)
@@ -97,16 +107,16 @@ fn setting_of(body: &Body, line: &[u8]) -> Option<Setting>
 }
 
 /// A draft with the setting of one more line.
-fn choice(draft: Draft, line: &[u8]) -> Result<State, Refusal>
+fn choice(mut draft: Draft, line: &[u8]) -> Result<State, Refusal>
     ensures { IsStepUnlessMemory result (after_choice draft (runs line.now)) }
 {
     match setting_of(&draft.document.body, line) {
-        Some(setting) => Ok(State::Open(Draft {
-            document: draft.document,
-            setting,
-            stage: Stage::Full,
-        })),
-        None => Err(Refusal::Line(Code::Setting)),
+        Some(setting) => {
+            draft.setting = setting;
+            draft.stage = Stage::Full;
+            Ok(State::Open(draft))
+        }
+        None => refuse(draft, Refusal::Line(Code::Setting)),
     }
 }
 
@@ -122,27 +132,17 @@ fn names_line(alloc: Global, elements: u8, line: &[u8]) -> Result<Option<List<Na
 }
 
 /// A draft after the kind line, with one more line.
-fn names_or_choice(alloc: Global, draft: Draft, line: &[u8]) -> Result<State, Refusal>
+fn names_or_choice(alloc: Global, mut draft: Draft, line: &[u8]) -> Result<State, Refusal>
     ensures { IsStepUnlessMemory result (after_names draft (runs line.now)) }
 {
-    match names_line(alloc, draft.document.elements, line)? {
-        Some(names) => {
-            let Document {
-                elements,
-                body,
-                names: _none,
-            } = draft.document;
-            Ok(State::Open(Draft {
-                document: Document {
-                    elements,
-                    body,
-                    names,
-                },
-                setting: draft.setting,
-                stage: Stage::Choice,
-            }))
+    match names_line(alloc, draft.document.elements, line) {
+        Ok(Some(names)) => {
+            draft.document.names = names;
+            draft.stage = Stage::Choice;
+            Ok(State::Open(draft))
         }
-        None => choice(draft, line),
+        Ok(None) => choice(draft, line),
+        Err(NoMemory) => refuse(draft, Refusal::Memory),
     }
 }
 
@@ -153,6 +153,6 @@ pub fn setting_line(alloc: Global, draft: Draft, line: &[u8]) -> Result<State, R
     match draft.stage {
         Stage::Names => names_or_choice(alloc, draft, line),
         Stage::Choice => choice(draft, line),
-        Stage::Full | Stage::Body => Err(Refusal::Line(Code::Setting)),
+        Stage::Full | Stage::Body => refuse(draft, Refusal::Line(Code::Setting)),
     }
 }

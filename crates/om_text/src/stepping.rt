@@ -14,7 +14,7 @@ ghost use Rattle.om_text.specs.ReaderParts.{has_all_values};
 use super::body_lines::with_line;
 use super::draft::Draft;
 use super::kind::kind_line;
-use super::refusal::Refusal;
+use super::refusal::{Refusal, refuse};
 use super::revlex::values_from_revlex;
 use super::setting_lines::{begins_as_setting, setting_line};
 use super::stage::Stage;
@@ -97,7 +97,7 @@ fn close(draft: Draft) -> Result<State, Refusal>
     if is_full(&draft.document.body, draft.document.elements) {
         Ok(State::Closed(finished(draft)?))
     } else {
-        Err(Refusal::Line(Code::Few))
+        refuse(draft, Refusal::Line(Code::Few))
     }
 }
 

@@ -13,4 +13,5 @@ returns-in_ok-finished c = closed c.args.draft c.is_full.result c.in_ok-finished
     c.if-is_full.true c.in_ok-finished.ensures
 
 pub returns-else-is_full : goal.returns-else-is_full
-returns-else-is_full c = not_closed c.args.draft c.is_full.result c.is_full.ensures c.if-is_full.false
+returns-else-is_full c = rw c.refuse.ensures
+    (not_closed c.args.draft c.is_full.result c.is_full.ensures c.if-is_full.false)

@@ -3,10 +3,10 @@ use Rattle.std.specs.Prelude.{bytes_eq}
 use Rattle.std.specs.List.{list_any}
 use Rattle.om_lines.specs.Lines.{runs}
 use Rattle.om_document.proofs.NameForms.{AreKept, one_too_many, name_again, kept_more}
-use Rattle.om_text.proofs.PartSteps.{name_refused, all_names, names_missing}
-use Rattle.om_text.proofs.setting_lines.names_on.Goals as goal
-use Rattle.om_text.proofs.setting_lines.names_on.Goals.{then-len-elements-via-then-len-elements}
-use Rattle.om_text.proofs.setting_lines.names_on.Goals.{then-len-elements-via-else-len-elements+then-has_name}
+use Rattle.om_text.proofs.PartSteps.{name_refused, names_counted}
+use Rattle.om_text.proofs.setting_lines.push_names.Goals as goal
+use Rattle.om_text.proofs.setting_lines.push_names.Goals.{then-len-elements-via-then-len-elements}
+use Rattle.om_text.proofs.setting_lines.push_names.Goals.{then-len-elements-via-else-len-elements+then-has_name}
 
 pub returns-then-len-elements : goal.returns-then-len-elements
 returns-then-len-elements c = elim c.then-len-elements.branch [
@@ -44,12 +44,7 @@ returns-in_default-new c =
     (runs c.loop-word.rest.now) c.new.result c.loop-word.invariant.kept c.in-Some.ensures.words c.in_default-new.is
     c.new.ensures
 
-pub returns-then-len-elements-2 : goal.returns-then-len-elements-2
-returns-then-len-elements-2 c =
-    all_names c.args.elements c.len-2.result (runs c.args.words.now) c.loop-word.names (runs c.loop-word.rest.now)
-    c.loop-word.invariant.kept c.in_default.ensures.words c.len-2.ensures c.if-len-elements-2.true
-
-pub returns-else-len-elements-2 : goal.returns-else-len-elements-2
-returns-else-len-elements-2 c =
-    names_missing c.args.elements c.len-2.result (runs c.args.words.now) c.loop-word.names (runs c.loop-word.rest.now)
-    c.loop-word.invariant.kept c.in_default.ensures.words c.len-2.ensures c.if-len-elements-2.false
+pub returns : goal.returns
+returns c =
+    names_counted c.args.elements c.len-2.result (runs c.args.words.now) c.loop-word.names (runs c.loop-word.rest.now)
+    c.loop-word.invariant.kept c.in_default.ensures.words c.len-2.ensures

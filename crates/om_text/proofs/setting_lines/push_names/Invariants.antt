@@ -1,7 +1,7 @@
 use Rattle.std.proofs.Common.{◌≤◌, length}
 use Rattle.om_lines.specs.Lines.{runs}
 use Rattle.om_document.proofs.NameForms.{AreKept}
-use Rattle.om_text.proofs.setting_lines.names_on.Given as goal
+use Rattle.om_text.proofs.setting_lines.push_names.Given as goal
 
 abbrev pub invariant-loop-word : goal.invariant-loop-word
 invariant-loop-word l = record {
