@@ -1,9 +1,9 @@
 -- The cover that the step finds, member by member.
 --
--- Main results: none_covered and more_covered, the steps; passed_over and all_covered, the end;
+-- Main results: none_covered and more_covered, the steps; passed_at and all_covered, the end; places_reached;
 -- complete_next.
 use Rattle.std.proofs.Common.{ℕ, List, Bool, ◌≡◌, ◌+◌, ◌<◌, ◌≤◌, ◌⊎◌, ◌∙◌, sym, ap, subst, inl, inr, length}
-use Rattle.std.proofs.Common.{get_or, ⊎_elim, All, true, false, replicate, arith}
+use Rattle.std.proofs.Common.{get_or, ⊎_elim, All, Option, Some, IfSome, true, false, replicate, arith}
 use Rattle.std.specs.List.{Contains}
 use Rattle.std.proofs.lemmas.Bool.{cases_lt, false≢true}
 use Rattle.std.proofs.lemmas.List.{get_or-replicate, get_or_past, length-replicate}
@@ -22,9 +22,11 @@ use Rattle.om_covers.proofs.SimpleSteps.{simple_step}
 use Rattle.om_covers.proofs.UniformSteps.{uniform_step}
 use Rattle.om_levels.specs.declared.family.Family.{Family}
 use Rattle.om_levels.specs.declared.family.Family.TheVariants.{Simple, Uniform}
+use Rattle.om_levels.specs.declared.reaching.Reaching.{Reaching}
+use Rattle.om_levels.specs.declared.reaching.Reaching.TheVariants.{Places}
 use Rattle.om_levels.specs.Families.{IsOfFamily, IsHalfOf}
 use Rattle.om_levels.specs.Levels.{IsChirotopeOfRank3, IsMemberAt, IsIsomorphicTo}
-use Rattle.om_levels.specs.Steps.{IsMetAt, IsAmong, ArePlaces, IsPassedOver}
+use Rattle.om_levels.specs.Steps.{IsMetAt, IsAmong, ArePlaces, IsPassedOver, IsReaching}
 use Rattle.om_levels.proofs.Images.{same_member}
 
 -- an extension of a member of the first list is isomorphic to the member of the next one at the place
@@ -112,7 +114,7 @@ module _ (T : List Sign → Type 0) (maps next : List SignMap) where
       ]
 
   -- a place that isn't marked after all members
-  pub passed_over : (i place : ℕ) (marks : List Bool) → IsCovered T maps next i marks → length maps ≤ i
+  passed_over : (i place : ℕ) (marks : List Bool) → IsCovered T maps next i marks → length maps ≤ i
       → place < length marks → get_or marks place false ≡ false → IsPassedOver T maps next place
   passed_over i place marks covered over l unset = record {
     below = (let s = covered.as_many in omega arith);
@@ -125,6 +127,16 @@ module _ (T : List Sign → Type 0) (maps next : List SignMap) where
           found = k.found;
         };
   }
+
+  -- the first of the marks, in another list of the same ones, that isn't set
+  pub passed_at : (i place : ℕ) (marks seen : List Bool) (found : Option ℕ) → IsCovered T maps next i marks
+      → length maps ≤ i → seen ≡ marks → found ≡ Some place → IfSome found (λ k. k < length seen)
+      → IfSome found (λ k. get_or seen k false ≡ false) → IsPassedOver T maps next place
+  passed_at i place marks seen found covered over same is below unset =
+      passed_over i place marks covered over
+      (subst (λ xs. place < length xs) same (subst (λ r. IfSome r (λ k. k < length seen)) is below))
+      (subst (λ xs. get_or xs place false ≡ false) same
+      (subst (λ r. IfSome r (λ k. get_or seen k false ≡ false)) is unset))
 
   -- all members, and all marks
   pub all_covered : (n i : ℕ) (marks : List Bool) → All (IsChirotopeOfRank3 n) maps → IsCovered T maps next i marks
@@ -179,3 +191,10 @@ complete_next Uniform n maps next large cover complete =
       rank = λ c k. (All-contains (IsUniformChirotope n) maps c complete.members k).rank;
       elements = λ c k. (All-contains (IsUniformChirotope n) maps c complete.members k).elements;
     }) cover)
+
+-- what is found about the extensions of a chirotope on n elements
+pub places_reached : (family : Family) (n : ℕ) (m : SignMap) (maps : List SignMap) (r : Reaching) (places : List ℕ)
+    → r ≡ Places places → m.elements ≡ n → IsReaching family m maps r
+    → ArePlaces (IsHalfOf family n) m maps places
+places_reached family n m maps r places q e found =
+    subst (λ k. ArePlaces (IsHalfOf family k) m maps places) e (subst (IsReaching family m maps) q found)

@@ -1,11 +1,12 @@
 -- Numbers of at most six digits, and of any number of digits up to a limit.
 --
--- Main results: ten_small, digit_at, number_step, number_grows, unsigned_within, signed_within, signed_minus
+-- Main results: ten_small, digit_at, number_step, number_grows, unsigned_within, signed_within, signed_minus,
+-- signed_minus_none
 use Rattle.std.proofs.Common.{◌≡◌, ℕ, zero, suc, ◌+◌, ◌-◌, ◌*◌, ◌<◌, ◌≤◌, List, [], ◌∷◌, true, length, drop, get_or}
-use Rattle.std.proofs.Common.{refl, ap, ◌∙◌, take, arith, nat_le, inl, inr}
+use Rattle.std.proofs.Common.{refl, sym, ap, ◌∙◌, take, arith, nat_le, inl, inr}
 use Rattle.std.proofs.lemmas.List.{take_rest}
 use Rattle.std.specs.List.{list_all}
-use Rattle.std.proofs.lemmas.Bool.{leb-true, lt-leb, cases_Bool, and_parts}
+use Rattle.std.proofs.lemmas.Bool.{leb-true, le-leb, lt-leb, cases_Bool, and_parts}
 use Rattle.std.specs.Prelude.{Option, Some, None, IfSome, option_map, ℤ, pos, neg_ℤ, unsigned_abs}
 use Rattle.om_lines.specs.Words.{is_digit, number_from, begins_with, is_decimal, up_to, unsigned, negative, signed}
 
@@ -48,6 +49,10 @@ number_grows n (b ∷ bs) = let i = number_grows (10 * n + (b - 48)) bs in omega
 pub past_limit : (limit n : ℕ) (w : List ℕ) → limit < n → up_to limit (number_from n w) ≡ None
 past_limit limit n w h = let i = number_grows n w in rw (lt-leb (number_from n w) limit (omega arith)) refl
 
+-- a number of at most the limit is taken
+pub not_past : (limit n : ℕ) → n ≤ limit → up_to limit n ≡ Some n
+not_past limit n h = rw (le-leb n limit h) refl
+
 up_to_within : (limit n : ℕ) → IfSome (up_to limit n) (λ k. k ≤ limit)
 up_to_within limit n = elim (cases_Bool (nat_le n limit)) [
   | inl e ↦ rw e (leb-true n limit e)
@@ -84,3 +89,10 @@ signed_minus limit n [] z l minus e some q = absurd (omega arith)
 signed_minus limit zero (b ∷ bs) z l minus e some q = absurd (omega arith)
 signed_minus limit (suc n) (b ∷ bs) z l minus e some q =
     rw minus (ap Some q ∙ ap negative (e ∙ ap (unsigned limit) (take_rest (b ∷ bs) 1)))
+
+-- a word with a `-` spells no number where its digits spell none, or 0
+pub signed_minus_none : (limit : ℕ) (w : List ℕ) (o : Option ℕ) → 1 ≤ length w → get_or w 0 0 ≡ 45
+    → o ≡ unsigned limit (take (length w - 1) (drop 1 w)) → negative o ≡ None → None ≡ signed limit w
+signed_minus_none limit [] o l minus e none = absurd (omega arith)
+signed_minus_none limit (b ∷ bs) o l minus e none =
+    rw minus (sym none ∙ ap negative (e ∙ ap (unsigned limit) (take_rest (b ∷ bs) 1)))

@@ -2,8 +2,8 @@
 --
 -- Main results: among more numbers there are no fewer lists (choose_more, choose_grows); one list is empty
 -- (choose_none), and as many as numbers have one (choose_one); no list is longer than the numbers are many
--- (subset_small, too_long).
-use Rattle.std.proofs.Common.{ℕ, zero, suc, ◌≡◌, ◌+◌, ◌<◌, ◌≤◌, List, [], ◌∷◌, length, refl, arith, inl, inr}
+-- (subset_small).
+use Rattle.std.proofs.Common.{ℕ, zero, suc, ◌≡◌, ◌+◌, ◌≤◌, List, [], ◌∷◌, length, refl, arith, inl, inr}
 use Rattle.std.proofs.lemmas.Bool.{cases_lt}
 use Rattle.om_subsets.specs.Subsets.{choose, IsSubsetFrom}
 
@@ -36,7 +36,3 @@ subset_small low n [] h = omega arith
 subset_small low zero (x ∷ xs) h = absurd h
 subset_small low (suc n) (x ∷ xs) (inl (q, h)) = let k = subset_small (low + 1) n xs h in omega arith
 subset_small low (suc n) (x ∷ xs) (inr (q, h)) = let k = subset_small (low + 1) n (x ∷ xs) h in omega arith
-
--- an increasing list of some of the numbers 1 to n doesn't have more than n
-pub too_long : (n : ℕ) (xs : List ℕ) → IsSubsetFrom 1 n xs → n < length xs → ⊥
-too_long n xs h l = let k = subset_small 1 n xs h in omega (arith, k, l)

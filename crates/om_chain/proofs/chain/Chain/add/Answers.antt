@@ -1,6 +1,7 @@
-use Rattle.std.proofs.Common.{IsNone, ◌∙◌, refl, sym, ap, subst}
+use Rattle.std.proofs.Common.{IsNone, IfSome, ◌∙◌, refl, sym, ap, subst}
+use Rattle.std.proofs.lemmas.Bool.{false≢true}
 use Rattle.std.proofs.lemmas.Result.{err_from_is_err_and}
-use Rattle.om_chain.specs.Chains.{ChainOfLists, IsFit, added}
+use Rattle.om_chain.specs.Chains.{ChainOfLists, IsFit, IsUnfit, added}
 use Rattle.om_chain.proofs.Steps.{kept_chain, kept_same, pushed_chain, pushed_same}
 use Rattle.om_chain.proofs.chain.Chain.add.Goals as goal
 use Rattle.om_chain.proofs.chain.Chain.add.Goals.{In_ok-push}
@@ -40,3 +41,17 @@ returns-clause-added c = λ none.
     let m = c.args.chi.now in
     pushed_same v c.push.new.self c.push.ensures.elements m c.in_ok-push.ensures.ok
     ∙ ap (λ u. added u m) c.self.view_is
+
+pub returns-in-Some-clause-fit : goal.returns-in-Some-clause-fit
+returns-in-Some-clause-fit c = λ none. absurd (false≢true (sym none))
+
+pub returns-in-Some-clause-added : goal.returns-in-Some-clause-added
+returns-in-Some-clause-added c = λ none. absurd (false≢true (sym none))
+
+pub returns-in-Some-clause-unfit : goal.returns-in-Some-clause-unfit
+returns-in-Some-clause-unfit c =
+    subst (λ r. IfSome r (IsUnfit c.args.self.now c.args.chi.now)) c.in-Some.is c.in_ok-unfit.ensures.unfit
+
+pub returns-in_err-unfit-clause-err : goal.returns-in_err-unfit-clause-err
+returns-in_err-unfit-clause-err c =
+    let p = err_from_is_err_and c.from_residual.result c.from_residual.ensures.1 in rw p.1 refl

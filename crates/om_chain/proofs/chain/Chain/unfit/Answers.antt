@@ -66,3 +66,12 @@ returns-else-not-is_least-clause-fit c = λ none.
       admitted = record { member = member; least = λ q. c.is_least.ensures.0 c.if-not-is_least.false };
       behind = λ q. c.in_ok-is_behind-in-Exact.ensures.0 c.if-not-branch.false;
     })
+
+pub returns-in-Some-clause-fit : goal.returns-in-Some-clause-fit
+returns-in-Some-clause-fit c = λ none. absurd (false≢true (sym none))
+
+pub returns-then-not-branch-clause-fit : goal.returns-then-not-branch-clause-fit
+returns-then-not-branch-clause-fit c = λ none. absurd (false≢true (sym none))
+
+pub returns-then-not-is_least-clause-fit : goal.returns-then-not-is_least-clause-fit
+returns-then-not-is_least-clause-fit c = λ none. absurd (false≢true (sym none))

@@ -1,4 +1,5 @@
-use Rattle.std.proofs.Common.{◌≡◌, ◌+◌, ◌-◌, ◌<◌, ◌∙◌, ap, arith}
+use Rattle.std.proofs.Common.{◌≡◌, ◌+◌, ◌-◌, ◌*◌, ◌%◌, ◌^◌, ◌<◌, ◌∙◌, ap, arith}
+use Rattle.std.proofs.lemmas.Nat.{and_le_l}
 use Rattle.om_subsets.specs.Subsets.{without_element}
 use Rattle.om_subsets.specs.Members.{members-subset}
 use Rattle.om_subsets.proofs.Places.{bits_fit}
@@ -18,3 +19,9 @@ returns-clause-elements c =
 
 pub returns-clause-lawful : goal.returns-clause-lawful
 returns-clause-lawful c = members-subset _ 1 c.self.inside.n
+
+pub invariant_of-result : goal.invariant_of-result
+invariant_of-result c =
+    let within = c.self.invariant.within in
+    let le = and_le_l c.self.inside.mask (4294967295 - 1 * 2 ^ (c.args.e - 1) % 4294967296) in
+    record { within = omega (arith, le, within); few = c.self.invariant.few }

@@ -1,4 +1,6 @@
-use Rattle.std.proofs.Common.{◌∙◌, sym, subst}
+use Rattle.std.proofs.Common.{◌∙◌, [], ◌∷◌, ◌++◌, ap, map, sym, subst}
+use Rattle.std.proofs.lemmas.List.{map_push}
+use Rattle.om_subsets.specs.Members.{Chosen}
 use Rattle.om_subsets.proofs.SetChains.{at_turn, mapped_at_end}
 use Rattle.om_chirotope.specs.Map.{value_of}
 use Rattle.om_chirotope.specs.Chirotope.{IsChirotope}
@@ -44,3 +46,11 @@ returns c =
     c.lawful.ensures
     ∙ made_map (image_value w (value_of m)) _ _ c.loop-s.signs all (c.elements-elements.ensures.value ∙ c.requires)
     c.rank-rank.ensures.value
+
+pub loop-s-preserved : goal.loop-s-preserved
+loop-s-preserved c =
+    let rule = λ (s : Chosen). image_value c.args.self.now (value_of c.args.chi.now) s.elements in
+    let made = c.in_ok-push.ensures.ok ∙ ap (λ l. l ++ c.image_sign.result ∷ []) c.loop-s.invariant.2
+    ∙ ap (λ x. map rule c.loop-s.yielded ++ x ∷ []) c.image_sign.ensures
+    ∙ sym (map_push rule c.loop-s.yielded c.in-Some.s) in
+    (tt, tt, made)

@@ -6,7 +6,7 @@ use Rattle.om_subsets.specs.Lists.{IsWithin}
 use Rattle.om_chirotope.specs.Map.{value_of}
 use Rattle.om_chirotope.proofs.Theory.{to_tuple}
 use Rattle.om_symmetry.specs.Permutations.{IsSignedPermutation, element_at, sign_of, image_value}
-use Rattle.om_symmetry.proofs.Tuples.{tuple_more, tuple_all, signs_all, tuple_within}
+use Rattle.om_symmetry.proofs.Tuples.{tuple_begun, tuple_more, tuple_all, signs_all, tuple_within}
 use Rattle.om_symmetry.proofs.signed_permutation.SignedPermutation.image_sign.Goals as goal
 
 pub loop-place-preserved : goal.loop-place-preserved
@@ -63,3 +63,15 @@ returns c =
     ∙ ap (λ t. product t (value_of m (map (element_at w) s)))
     (signs_all w s l.tuple l.place l.sign l.rest.elements none l.invariant.state)
     ∙ ap (λ u. image_value u (value_of m) s) c.self.view_is
+
+pub at-a-requires : goal.at-a-requires
+at-a-requires c =
+    let w = ap length c.self.view_is in
+    let high = c.least-i.ensures.high in
+    let n = c.loop-place.invariant.n in
+    let same = c.requires.n in
+    let elements = c.requires.elements in
+    record { low = c.least-i.ensures.low; high = omega arith }
+
+pub loop-place-init : goal.loop-place-init
+loop-place-init c = record { state = tuple_begun c.self.inside.entries c.args.s.elements _ refl; n = refl }
