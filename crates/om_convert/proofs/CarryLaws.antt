@@ -281,15 +281,17 @@ plus_sign n members t k list each at_element none m h r =
     ∙ ap (at m.signs) p)
     list at_element h
 
-pub none_more : (members : List (List Sign)) (t : List ℕ) (e : ℕ)
-    → ((f : ℕ) → 1 ≤ f → f < e → HasNoneCarried members t f) → HasNoneCarried members t e → (f : ℕ) → 1 ≤ f → f < e + 1
+-- one element fewer is left, and no sign is carried over it
+pub none_more : (n : ℕ) (members : List (List Sign)) (t : List ℕ) (e k : ℕ) → k + 1 ≡ e
+    → ((f : ℕ) → e ≤ f → f ≤ n → HasNoneCarried members t f) → HasNoneCarried members t k → (f : ℕ) → k ≤ f → f ≤ n
     → HasNoneCarried members t f
-none_more members t e old new f low lt = elim (cases_eq f e) [
+none_more n members t e k next old new f low high = elim (cases_eq f k) [
   | inl q ↦ subst (HasNoneCarried members t) (sym q) new
-  | inr ne ↦ old f low (omega arith)
+  | inr ne ↦ old f (omega (arith, next, low, ne)) high
 ]
 
-pub none_all : (n : ℕ) (members : List (List Sign)) (t : List ℕ) (e : ℕ) → IsSubsetFrom 1 n t → n + 1 ≤ e
-    → ((f : ℕ) → 1 ≤ f → f < e → HasNoneCarried members t f) → (f : ℕ) → IsMember f t → HasNoneCarried members t f
+-- no element is left
+pub none_all : (n : ℕ) (members : List (List Sign)) (t : List ℕ) (e : ℕ) → IsSubsetFrom 1 n t → e ≤ 1
+    → ((f : ℕ) → e ≤ f → f ≤ n → HasNoneCarried members t f) → (f : ℕ) → IsMember f t → HasNoneCarried members t f
 none_all n members t e list le all f m = let b = members_from 1 n f t list m in let low = b.0 in let high = b.1 in
-    all f low (omega (arith, high, le))
+    all f (omega (arith, low, le)) (omega (arith, high))

@@ -129,7 +129,8 @@ impl MemberSet {
         Ok(())
     }
 
-    /// Adds a vector at the end, unless it is a member. It is first compared with two members.
+    /// Adds a vector at the end, unless it is a member. It is first compared with two members, and then looked up,
+    /// since most are members, and to find one takes less time than an insertion that changes nothing.
     ///
     /// The errors are those of [`MemberSet::insert`].
     fn insert_beside(
@@ -147,6 +148,9 @@ impl MemberSet {
             return Ok(());
         }
         if are_same(x, second) {
+            return Ok(());
+        }
+        if self.contains(x) {
             return Ok(());
         }
         self.insert(x)

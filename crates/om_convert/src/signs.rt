@@ -76,7 +76,8 @@ fn sign_over(vectors: &[SignVec], before: &[Sign], t: Subset, e: u8) -> Option<S
 }
 
 /// The sign of a set that meets every vector, from the signs of the sets before it. Suppose that `before` has the
-/// first signs of the normal chirotope with these cocircuits. Then the result is the sign of this basis in it.
+/// first signs of the normal chirotope with these cocircuits. Then the result is the sign of this basis in it. The
+/// greatest elements come first, since a smaller one most often takes their place.
 fn sign_of_basis(vectors: &[SignVec], before: &[Sign], t: Subset) -> Sign
     requires lengths { HaveLength t.n vectors.now }
     requires place { rank_of t.n t.elements ≡ length before.now }
@@ -84,7 +85,7 @@ fn sign_of_basis(vectors: &[SignVec], before: &[Sign], t: Subset) -> Sign
     ensures { AreFirstSigns t.n (length t.elements) vectors.now before.now
         → IsNextSign t.n (length t.elements) vectors.now (length before.now) result }
 {
-    for e in 1..t.n() + 1 {
+    for e in (1..t.n() + 1).rev() {
         if let Some(sign) = sign_over(vectors, before, t, e) {
             return sign;
         }

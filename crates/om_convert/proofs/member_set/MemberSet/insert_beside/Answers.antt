@@ -12,3 +12,8 @@ pub returns-then-are_same-2-clause-added : goal.returns-then-are_same-2-clause-a
 returns-then-are_same-2-clause-added c =
     unchanged (λ X. X ≡ c.args.x) c.args.self.now
     (λ X q. subst (Contains c.args.self.now) (sym (q ∙ c.are_same-2.ensures.0 c.if-are_same-2.true)) c.requires.second)
+
+pub returns-then-contains-clause-added : goal.returns-then-contains-clause-added
+returns-then-contains-clause-added c =
+    unchanged (λ X. X ≡ c.args.x) c.args.self.now
+    (λ X q. subst (Contains c.args.self.now) (sym q) (c.contains.ensures.0 c.if-contains.true))
