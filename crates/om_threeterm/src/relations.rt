@@ -184,6 +184,10 @@ fn has_relation(map: &WholeMap, p: Subset, a: u8, b: u8, c: u8, d: u8) -> bool
 {
     let first = value_with(map, p, a, b).times(value_with(map, p, c, d));
     let second = value_with(map, p, a, c).times(value_with(map, p, b, d));
+    // Then the first is a plus and the negative of the second a minus, or the other way round.
+    if first == second && first != Sign::Zero {
+        return true;
+    }
     let third = value_with(map, p, a, d).times(value_with(map, p, b, c));
     are_balanced(first, second.neg(), third)
 }
