@@ -46,6 +46,7 @@ pub record AreNumbered (r : SignMap → ℕ) (w : SignMap) (s : Enumerate (List 
   pub none : enumerate_count s ≡ 0
   pub few : length (enumerate_source s) ≤ MOST_SUBSETS
 
+-- the sets of a map come with their numbers, from what the three calls give
 pub are_numbered : (r : SignMap → ℕ) {m w : SignMap} {s e : Enumerate (List Chosen)} {a : List Chosen} → m ≡ w → s ≡ e
     → enumerate_source e ≡ a → enumerate_count e ≡ 0 → a ≡ all_sets m.elements (r m) → length a ≤ MOST_SUBSETS
     → AreNumbered r w s

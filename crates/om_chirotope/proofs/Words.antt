@@ -1,7 +1,7 @@
 -- Marks of sets as bits of words, spread from each set to the set with one element more.
 --
--- Main definitions: IsSpreadBelow
--- Main results: spread_within, spread_on, spread_off, spread_over, mark_more, mark_others
+-- Main definitions: AreSpreadBelow, IsSpreadBelow
+-- Main results: spread_word, spread_within, spread_on, spread_off, spread_over, mark_more, mark_others
 use Rattle.std.specs.Prelude.{ℕ, ◌≡◌, ◌≢◌, ◌+◌, ◌-◌, ◌*◌, ◌/◌, ◌%◌, ◌<◌, ◌≤◌, ◌^◌, ◌⊎◌, List, length, bit_or}
 use Rattle.std.specs.Int.{bit_at}
 use Rattle.std.proofs.Common.{sym, ◌∙◌, ap, arith, inl, inr, subst, get_or, set, w64}
@@ -26,6 +26,34 @@ place_bit : (s e : ℕ) → e < 6 → bit_at (s % 64) e ≡ bit_at s e
 place_bit s e l =
     let w : s / 64 * 2 ^ 6 + s % 64 ≡ s = omega arith in
     sym (bit_at_cat_low (s / 64) 6 (s % 64) e l) ∙ ap (λ k. bit_at k e) w
+
+-- the words below a place are spread, and the others are as they were
+pub record AreSpreadBelow (words words' : List ℕ) (e k : ℕ) : Type 0 where
+  pub size : length words' ≡ length words
+  pub done : (i : ℕ) → i < k → IsWordSpread (get_or words i 0) (get_or words' i 0) e
+  pub rest : (i : ℕ) → k ≤ i → get_or words' i 0 ≡ get_or words i 0
+
+-- one word more is spread
+pub spread_word : {words words' : List ℕ} {e k w : ℕ} → AreSpreadBelow words words' e k → k < length words
+    → IsWordSpread (get_or words' k 0) w e → AreSpreadBelow words (set words' k w) e (k + 1)
+spread_word {words} {words'} {e} {k} {w} h l spread =
+    let size = h.size in
+    let here : get_or (set words' k w) k 0 ≡ w = get_or-set_same words' k w 0 (omega (arith, l, size)) in
+    record {
+      size = length-set words' k w ∙ size;
+      done = λ i below.
+          elim (cases_lt i k) [
+            | inl before ↦
+                subst (λ x. IsWordSpread (get_or words i 0) x e) (sym (get_or-set_other words' k i w 0 (omega arith)))
+                (h.done i before)
+            | inr ge ↦
+                let same : k ≡ i = omega (arith, below, ge) in
+                subst (λ j. IsWordSpread (get_or words j 0) (get_or (set words' k w) j 0) e) same
+                (subst (λ x. IsWordSpread (get_or words k 0) x e) (sym here)
+                (subst (λ x. IsWordSpread x w e) (h.rest k (omega arith)) spread))
+          ];
+      rest = λ i g. get_or-set_other words' k i w 0 (omega arith) ∙ h.rest i (omega arith);
+    }
 
 pub spread_within : (words words' : List ℕ) (e : ℕ) → e < 6 → length words' ≡ length words
     → ((i : ℕ) → i < length words → IsWordSpread (get_or words i 0) (get_or words' i 0) e) → IsSpread words words' e

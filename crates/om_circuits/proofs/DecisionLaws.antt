@@ -102,3 +102,19 @@ module _ (members : List (List Sign)) where
     },
     λ b. refl,
   )
+
+  -- a bad number has a second member and an element
+  pub some_blocked : (n i : ℕ) (x : List Sign) → x ≡ get_or members i x
+      → IsLeastBad (IsBadBelow (length members) (IsUnblockedAt members n)) 0 (length members) i
+      → IsUnblocked members n x → ⊥
+  some_blocked n i x is least all = least.is_bad.not_good
+      (subst (λ X. IsUnblocked members n X) (sym (nth_read members i x least.below is)) all)
+
+  -- a bad number has a second member
+  pub some_nested : (i : ℕ) (x : List Sign) → x ≡ get_or members i x
+      → IsLeastBad (IsBadBelow (length members) (λ i. AllBelow (length members) (AreUnnestedAt members i))) 0
+      (length members) i
+      → AllBelow (length members) (λ j. IsUnnestedIn x (nth members j)) → ⊥
+  some_nested i x is least all = least.is_bad.not_good
+      (subst (λ X. AllBelow (length members) (λ j. IsUnnestedIn X (nth members j)))
+      (sym (nth_read members i x least.below is)) all)

@@ -14,7 +14,8 @@ use Rattle.om_circuits.specs.Axioms.{HasEliminator, MeetsCircuitAxioms}
 use Rattle.om_members.specs.Listings.{HaveLength}
 use Rattle.om_members.specs.Positions.{IsPosition, IsBefore}
 use Rattle.om_circuits.specs.Instances.{IsNestedIn, HasNoEliminator, IsViolated, key, IsFirstViolated}
-use Rattle.om_members.specs.Scans.{nth, AllBelow, IsFirstBadPair, HasNegativeAt}
+use Rattle.om_members.specs.Scans.{nth, AllBelow, IsFirstBadPair, HasNegativeAt, IsFirstBad, HasNoNegativeAt}
+use Rattle.om_circuits.specs.Scans.{IsZeroAt}
 use Rattle.om_circuits.specs.Scans.{IsNotZeroAt, IsUnnestedIn, HasEliminatorIfAsked, AreNestedAt, AreUnnestedAt}
 use Rattle.om_circuits.specs.Scans.{IsUnblockedAt, IsFirstBlocked}
 use Rattle.om_circuits.proofs.MaskLaws.{element_within}
@@ -141,6 +142,47 @@ module _ (members : List (List Sign)) where
       before (NoNegative a) o v = none_negative hn a v
       before (Nested a b) o v = same a b (same_number 2 (a ∷ b ∷ []) ((i + 1) ∷ (j + 1) ∷ []) o) v
       before (NoElimination a b d) o v = greater_number 3 2 (a ∷ b ∷ d ∷ []) ((i + 1) ∷ (j + 1) ∷ []) (omega arith) o
+
+  -- the first zero vector is the first violated instance
+  pub first_zero_violated : (i : ℕ) → IsFirstBad (length members) (IsZeroAt members) (IsNotZeroAt members) i
+      → IsFirstViolated members (Zero (i + 1))
+  first_zero_violated i f = record { violated = ((omega arith, here), zero); first = before }
+    where
+      here : i + 1 ≤ length members
+      here = let l = f.within in omega arith
+
+      zero : IsZeroAt members (i + 1 - 1)
+      zero = let a : i ≡ i + 1 - 1 = omega arith in subst (IsZeroAt members) a f.bad
+
+      before : (other : SetRefused) → IsBefore (key other) (key (Zero (i + 1))) → IsViolated members other → ⊥
+      before (Zero a) o v =
+          let p = v.0.0 in
+          let lt = last_number a (i + 1) (same_number 0 (a ∷ []) ((i + 1) ∷ []) o) in
+          f.before (a - 1) (omega arith) v.1
+      before (NoNegative a) o v = greater_number 1 0 (a ∷ []) ((i + 1) ∷ []) (omega arith) o
+      before (Nested a b) o v = greater_number 2 0 (a ∷ b ∷ []) ((i + 1) ∷ []) (omega arith) o
+      before (NoElimination a b d) o v = greater_number 3 0 (a ∷ b ∷ d ∷ []) ((i + 1) ∷ []) (omega arith) o
+
+  -- the first member without its negative is the first violated instance, if none is zero
+  pub first_negative_violated : (i : ℕ) → AllBelow (length members) (IsNotZeroAt members)
+      → IsFirstBad (length members) (HasNoNegativeAt members) (HasNegativeAt members) i
+      → IsFirstViolated members (NoNegative (i + 1))
+  first_negative_violated i hz f = record { violated = ((omega arith, here), none); first = before }
+    where
+      here : i + 1 ≤ length members
+      here = let l = f.within in omega arith
+
+      none : HasNoNegativeAt members (i + 1 - 1)
+      none = let a : i ≡ i + 1 - 1 = omega arith in subst (HasNoNegativeAt members) a f.bad
+
+      before : (other : SetRefused) → IsBefore (key other) (key (NoNegative (i + 1))) → IsViolated members other → ⊥
+      before (Zero a) o v = none_zero hz a v
+      before (NoNegative a) o v =
+          let p = v.0.0 in
+          let lt = last_number a (i + 1) (same_number 1 (a ∷ []) ((i + 1) ∷ []) o) in
+          v.1 (f.before (a - 1) (omega arith))
+      before (Nested a b) o v = greater_number 2 1 (a ∷ b ∷ []) ((i + 1) ∷ []) (omega arith) o
+      before (NoElimination a b d) o v = greater_number 3 1 (a ∷ b ∷ d ∷ []) ((i + 1) ∷ []) (omega arith) o
 
   -- ---- the axioms
 

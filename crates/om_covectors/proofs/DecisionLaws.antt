@@ -129,3 +129,10 @@ module _ (members : List (List Sign)) where
       least.is_bad.not_good
       (subst (λ X. AllBelow (length members) (HasCompositionWith members X)) (sym (nth_read members i x least.below is))
       all)
+
+  -- a bad number has a second member and an element
+  pub some_blocked : (n i : ℕ) (x : List Sign) → x ≡ get_or members i x
+      → IsLeastBad (IsBadBelow (length members) (IsUnblockedAt members n)) 0 (length members) i
+      → IsUnblocked members n x → ⊥
+  some_blocked n i x is least all = least.is_bad.not_good
+      (subst (λ X. IsUnblocked members n X) (sym (nth_read members i x least.below is)) all)

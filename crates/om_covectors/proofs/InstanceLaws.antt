@@ -17,7 +17,7 @@ use Rattle.om_members.specs.Listings.{HaveLength}
 use Rattle.om_members.specs.Positions.{IsPosition, IsBefore}
 use Rattle.om_covectors.specs.Instances.{HasNoCovectorEliminator, IsViolatedCovectorAxiom, covector_key}
 use Rattle.om_covectors.specs.Instances.{IsFirstViolatedCovectorAxiom}
-use Rattle.om_members.specs.Scans.{nth, AllBelow, IsFirstBadPair, HasNegativeAt}
+use Rattle.om_members.specs.Scans.{nth, AllBelow, IsFirstBadPair, HasNegativeAt, IsFirstBad, HasNoNegativeAt}
 use Rattle.om_covectors.specs.Scans.{HasCompositionAt, HasNoCompositionAt, HasCovectorEliminatorIfAsked, IsUnblockedAt}
 use Rattle.om_covectors.specs.Scans.{IsFirstBlocked}
 use Rattle.om_covectors.proofs.MaskLaws.{element_within}
@@ -42,6 +42,39 @@ module _ (members : List (List Sign)) where
       v.2 (h (i - 1) (omega arith) (j - 1) (omega arith))
 
   -- ---- the first violated instance
+
+  -- a list without the zero vector violates the first axiom, before all others
+  pub no_zero_violated : (HasZero members → ⊥) → IsFirstViolatedCovectorAxiom members NoZero
+  no_zero_violated none = record { violated = none; first = before }
+    where
+      before : (other : CovRefused) → IsBefore (covector_key other) (covector_key NoZero)
+          → IsViolatedCovectorAxiom members other → ⊥
+      before NoZero o v = let l = last_number 0 0 o in absurd (omega arith)
+      before (NoNegative a) o v = greater_number 1 0 (a ∷ []) [] (omega arith) o
+      before (NoComposition a b) o v = greater_number 2 0 (a ∷ b ∷ []) [] (omega arith) o
+      before (NoElimination a b d) o v = greater_number 3 0 (a ∷ b ∷ d ∷ []) [] (omega arith) o
+
+  -- the first member without its negative is the first violated instance, if there is a zero vector
+  pub first_negative_violated : (i : ℕ) → HasZero members
+      → IsFirstBad (length members) (HasNoNegativeAt members) (HasNegativeAt members) i
+      → IsFirstViolatedCovectorAxiom members (NoNegative (i + 1))
+  first_negative_violated i hz f = record { violated = ((omega arith, here), none); first = before }
+    where
+      here : i + 1 ≤ length members
+      here = let l = f.within in omega arith
+
+      none : HasNoNegativeAt members (i + 1 - 1)
+      none = let a : i ≡ i + 1 - 1 = omega arith in subst (HasNoNegativeAt members) a f.bad
+
+      before : (other : CovRefused) → IsBefore (covector_key other) (covector_key (NoNegative (i + 1)))
+          → IsViolatedCovectorAxiom members other → ⊥
+      before NoZero o v = v hz
+      before (NoNegative a) o v =
+          let p = v.0.0 in
+          let lt = last_number a (i + 1) (same_number 1 (a ∷ []) ((i + 1) ∷ []) o) in
+          v.1 (f.before (a - 1) (omega arith))
+      before (NoComposition a b) o v = greater_number 2 1 (a ∷ b ∷ []) ((i + 1) ∷ []) (omega arith) o
+      before (NoElimination a b d) o v = greater_number 3 1 (a ∷ b ∷ d ∷ []) ((i + 1) ∷ []) (omega arith) o
 
   pub first_uncomposed_violated : (i j : ℕ) → HasZero members → AllBelow (length members) (HasNegativeAt members)
       → IsFirstBadPair (length members) (length members) (HasNoCompositionAt members) (HasCompositionAt members) i j

@@ -1,6 +1,7 @@
 -- The words of a line of points as the code has them, and the text of a point.
 --
--- Main results: long_point, three_point, no_first, no_second, no_third, point_read, point_bytes
+-- Main results: long_point, three_point, no_first, no_second, no_third, read_kept,
+-- point_read, point_bytes
 use Rattle.std.proofs.Common.{◌≡◌, ℕ, List, [], ◌∷◌, ◌++◌, true, false, get_or, refl, sym, ap, subst, ◌∙◌, arith}
 use Rattle.std.proofs.Common.{append_assoc}
 use Rattle.std.specs.Prelude.{ℤ, pos, unsigned_abs, Option, Some, None, IfSome, not}
@@ -55,7 +56,8 @@ no_third x y a b c h g f = ap (λ a. with_three a b c) (sym h) ∙ ap (λ b. wit
 kept : (x : ℤ) → IsCoordinate x → to_z w64 (of_z w64 x) ≡ x
 kept x h = to_z-of_z w64 x (fits_signed_from_abs w64 x (omega arith))
 
-read_kept : (x : ℤ) (w : List ℕ) → Some x ≡ coordinate w → to_z w64 (of_z w64 x) ≡ x
+-- a coordinate that a word spells is the code's number
+pub read_kept : (x : ℤ) (w : List ℕ) → Some x ≡ coordinate w → to_z w64 (of_z w64 x) ≡ x
 read_kept x w h = kept x (subst (λ o. IfSome o IsCoordinate) (sym h) (signed_within (unsigned_abs MAX_COORDINATE) w))
 
 -- three coordinates, as the code's numbers, are the point that their words spell

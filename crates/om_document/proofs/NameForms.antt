@@ -1,7 +1,7 @@
 -- How the bytes of a name are kept, and the words of a `names` line, one after the other.
 --
 -- Main definitions: AreKept
--- Main results: kept_new, kept_more, one_too_many, name_again
+-- Main results: kept_new, read_again, kept_more, one_too_many, name_again
 use Rattle.std.proofs.Math.Bool.{and-false, or-true, or-false}
 use Rattle.std.proofs.Common.{◌≡◌, ℕ, ◌-◌, ◌≤◌, List, [], ◌∷◌, ◌++◌, true, false, cond, not, ◌&&◌, inl, inr}
 use Rattle.std.proofs.Common.{length, take, drop, replicate, refl, sym, ap, subst, ◌∙◌, arith, append_assoc}
@@ -32,6 +32,11 @@ kept_new w xs e l h a = subst (λ xs. IsPaddedName (xs ++ drop (length w) (repli
           ∙ ap (λ x. w ++ x) (sym (drop-replicate (length w) MAX_NAME 0));
       name = ap is_name t ∙ is_name_by w l h a;
     })
+
+-- the bytes of a name, read again from before the zeros
+pub read_again : (w xs zeros : List ℕ) → xs ≡ w → 1 ≤ length w → length w ≤ MAX_NAME
+    → list_all is_name_byte w ≡ true → Some (take (length w) (xs ++ zeros)) ≡ cond (is_name w) (Some w) None
+read_again w xs zeros e l h a = rw (e, take-append_seam w zeros, is_name_by w l h a) refl
 
 -- ---- the words of a `names` line, one after the other
 

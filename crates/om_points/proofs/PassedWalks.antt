@@ -75,9 +75,9 @@ some_last m box steps step p es signs h =
     let k = h.turn.visited.nonempty in
     omega arith
 
-pub walk_last : (m : SignMap) (box steps step : ℕ) (p : List WholeVector) (es : List ℕ) (signs : List Sign)
+pub walk_last : {m : SignMap} {box steps step : ℕ} {p : List WholeVector} {es : List ℕ} {signs : List Sign}
     → IsWalk m box steps step p es signs → (1 ≤ length p) × IsCandidate box (get_or p (length p - 1) zero_vector)
-walk_last m box steps step p es signs h =
+walk_last {m} {box} {steps} {step} {p} {es} {signs} h =
     let l = some_last m box steps step p es signs h in
     (omega arith, walk_candidates m box steps step p es signs h (length p - 1) (omega arith) (omega arith))
 

@@ -1,14 +1,15 @@
 -- The products of the first rows with a column, one after another.
 --
--- Main results: first_coefficient, coefficient_more
+-- Main results: first_coefficient, coefficient_more, coefficient_wide
 use Rattle.std.specs.Prelude.{ℕ, ◌≡◌, ◌+◌, ◌-◌, ◌≤◌, ℤ, pos, List, [], ◌∷◌, ◌++◌, length}
 use Rattle.std.proofs.Common.{arith, sym, ◌∙◌, ap, subst, inl, inr, get_or}
 use Rattle.std.proofs.lemmas.Bool.{cases_eq}
 use Rattle.std.proofs.lemmas.List.{get_or_push, get_or_append_left, length_push}
 use Rattle.om_rows.specs.declared.column.Column.{Column}
-use Rattle.om_rows.specs.Rows.{product, IsNarrow}
+use Rattle.om_rows.specs.Rows.{product, IsNarrow, IsWide}
 use Rattle.om_rows.proofs.Casts.{stored, stored-narrow}
 use Rattle.om_simplex.specs.States.{State, row_of, coefficient}
+use Rattle.om_simplex.specs.Pivots.{IsCoefficientWide}
 use Rattle.om_simplex.specs.Steps.{AreCoefficients}
 
 -- the price alone
@@ -52,3 +53,12 @@ coefficient_more s c i n row ts us t l q r narrow e pushed h =
     let f : i - 1 + 1 ≡ i = omega arith in
     subst (λ k. AreCoefficients k s c us) (f ∙ q)
     (one_coefficient_more s c (i - 1) row ts us t (r ∙ ap (row_of s) (sym f)) narrow e pushed h)
+
+-- row i is the first one whose product is too wide
+pub coefficient_wide : (s : State) (c : Column) (m i : ℕ) (row ts : List ℤ) → 1 ≤ i → i ≤ m → row ≡ row_of s i
+    → IsWide (product row c) → AreCoefficients (i - 1) s c ts → IsCoefficientWide m s c i
+coefficient_wide s c m i row ts low high r wide h = record {
+  row = record { low = low; high = high };
+  wide = λ n. wide (subst (λ xs. IsNarrow (product xs c)) (sym r) n);
+  earlier = λ l a b. h.narrow l (record { low = a; high = omega (arith, b) });
+}

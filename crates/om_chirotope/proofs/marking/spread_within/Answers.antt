@@ -1,6 +1,12 @@
 use Rattle.std.proofs.Common.{arith}
-use Rattle.om_chirotope.proofs.Words.{spread_within}
+use Rattle.om_chirotope.proofs.Words.{spread_word, spread_within}
 use Rattle.om_chirotope.proofs.marking.spread_within.Goals as goal
+
+pub loop-word-preserved : goal.loop-word-preserved
+loop-word-preserved c =
+    let size = c.loop-word.invariant.size in
+    let inside = c.loop-word-test.true in
+    spread_word c.loop-word.invariant (omega (arith, inside, size)) c.spread_in.ensures
 
 pub returns : goal.returns
 returns c =

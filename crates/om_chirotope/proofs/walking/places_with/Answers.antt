@@ -68,3 +68,9 @@ loop-e-preserved c =
                 step.here c.loop-e.invariant.done);
           }
     ]
+
+pub overflow_sub-left : goal.overflow_sub-left
+overflow_sub-left c =
+    (walk_in c.args.set.n c.args.set.elements c.loop-e.e c.loop-e.left c.loop-e.passed _ c.choose-passed.result
+    c.n-in-loop-e.result (c.if-has.ensures.0 refl) c.n-in-loop-e.ensures.value c.choose-passed.ensures.value
+    c.loop-e.invariant.walk).0

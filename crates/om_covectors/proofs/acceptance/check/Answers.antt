@@ -1,4 +1,5 @@
 use Rattle.std.proofs.Common.{◌≡◌, false, true, subst}
+use Rattle.om_covectors.specs.Axioms.{MeetsCovectorAxioms}
 use Rattle.om_covectors.specs.Instances.{IsFirstViolatedCovectorAxiom}
 use Rattle.om_covectors.proofs.InstanceLaws.{violated_breaks}
 use Rattle.om_covectors.proofs.acceptance.check.Goals as goal
@@ -11,3 +12,17 @@ returns-in-Some-clause-accepted g c = (
       (subst (λ m. IsFirstViolatedCovectorAxiom m c.in-Some.why) c.as_slice.ensures c.in-Some.ensures.first).violated
       ax),
 )
+
+pub lawful-requires : goal.lawful-requires
+lawful-requires g c = record {
+  low = c.requires.low;
+  high = c.requires.high;
+  lengths = c.requires.lengths;
+  distinct = c.requires.distinct;
+  few = c.requires.few;
+  axioms = subst MeetsCovectorAxioms c.as_slice.ensures c.in-None.ensures.none;
+}
+
+pub returns-in-Some-clause-first : goal.returns-in-Some-clause-first
+returns-in-Some-clause-first g c =
+    subst (λ m. IsFirstViolatedCovectorAxiom m c.in-Some.why) c.as_slice.ensures c.in-Some.ensures.first

@@ -12,3 +12,6 @@ returns-in_err-j-clause-none g c =
 pub returns-clause-first : goal.returns-clause-first
 returns-clause-first g c = uncomposed_found c.args.members.now c.in_ok-i.i c.in_ok-j.j c.index-members-i.result
     c.index-members-i.is c.in_ok-i.ensures c.in_ok-j.ensures.first
+
+pub bounds-members-i : goal.bounds-members-i
+bounds-members-i g c = c.in_ok-i.ensures.below

@@ -1,4 +1,6 @@
-use Rattle.std.proofs.Common.{◌+◌, ◌∙◌, sym, ap, subst}
+use Rattle.std.proofs.Common.{[], ◌∷◌, ◌++◌, ◌+◌, ◌∙◌, map, sym, ap, subst}
+use Rattle.std.proofs.lemmas.List.{map_push}
+use Rattle.om_subsets.specs.Members.{Chosen}
 use Rattle.om_subsets.proofs.SetChains.{at_turn, mapped_at_end}
 use Rattle.om_chirotope.specs.Chirotope.{IsChirotope}
 use Rattle.om_localize.specs.Extensions.{IsExtension, signature_of}
@@ -55,3 +57,11 @@ pub returns-clause-signature : goal.returns-clause-signature
 returns-clause-signature c =
     ap (signature_of c.args.chi.now.elements) (returns-clause-value c)
     ∙ (grown_extension c.args.chi.now c.args.signature c.requires.rank c.requires.signature).signature
+
+pub loop-s-preserved : goal.loop-s-preserved
+loop-s-preserved c =
+    let rule = λ (s : Chosen). grown_sign c.args.chi.now c.args.signature s.elements in
+    let made = c.in_ok-push.ensures.ok ∙ ap (λ l. l ++ c.extended_sign.result ∷ []) c.loop-s.invariant.2
+    ∙ ap (λ x. map rule c.loop-s.yielded ++ x ∷ []) c.extended_sign.ensures
+    ∙ sym (map_push rule c.loop-s.yielded c.in-Some.s) in
+    (tt, tt, made)

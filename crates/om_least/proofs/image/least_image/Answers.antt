@@ -30,3 +30,9 @@ pub loop-permutation-preserved : goal.loop-permutation-preserved
 loop-permutation-preserved c =
     isomorphic_on c.args.chi.now c.loop-permutation.image c.in_ok-image-2.image c.loop-permutation.invariant
     (c.in-Some.permutation, c.in-Some.ensures.permutation, sym c.in_ok-image-2.ensures)
+
+pub returns-clause-rank : goal.returns-clause-rank
+returns-clause-rank c = ap (λ (m : SignMap). m.rank) (sym c.loop-permutation.invariant.2)
+
+pub returns-clause-elements : goal.returns-clause-elements
+returns-clause-elements c = ap (λ (m : SignMap). m.elements) (sym c.loop-permutation.invariant.2)

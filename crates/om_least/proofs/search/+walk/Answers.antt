@@ -1,13 +1,14 @@
-use Rattle.std.proofs.Common.{ℕ, ◌≡◌, ◌∙◌, length, sym, subst, inl, inr, arith}
+use Rattle.std.proofs.Common.{ℕ, ◌≡◌, ◌∙◌, sym, subst, inl, inr, arith}
 use Rattle.std.proofs.lemmas.Bool.{cases_lt}
 use Rattle.om_signs.specs.OrderLaws.{same_from_order}
 use Rattle.om_laws.specs.Members.{IsMember}
 use Rattle.om_symmetry.specs.Permutations.{elements_of}
-use Rattle.om_least.specs.Beginnings.{IsLeastBehind, first_signs, first_image_signs}
+use Rattle.om_least.specs.Beginnings.{IsLeastBehind}
 use Rattle.om_least.proofs.Entries.{IsTried, IsComparable, passed_over, least_at_end, least_by_entries}
 use Rattle.om_least.proofs.Entries.{comparable, longer, next_requires}
 use Rattle.om_least.proofs.search.+walk.Goals as goal
-use Rattle.om_least.proofs.search.+walk.Goals.{lesser_behind-else-not-has, lesser_with-After-followed_by-longer}
+use Rattle.om_least.proofs.search.+walk.Goals.{lesser_behind-else-not-has, lesser_behind-Then-not-has}
+use Rattle.om_least.proofs.search.+walk.Goals.{lesser_with-After-followed_by-longer}
 use Rattle.om_least.proofs.search.+walk.Goals.{lesser_behind-then-not-has+in_default+in_default-lesser_with}
 
 pub lesser_behind-returns-then-len-elements-clause-least : goal.lesser_behind-returns-then-len-elements-clause-least
@@ -25,11 +26,7 @@ lesser_behind-lesser_with-requires t c =
 
 pub lesser_behind-lesser_with-requires-then-not-has : goal.lesser_behind-lesser_with-requires-then-not-has
 lesser_behind-lesser_with-requires-then-not-has t c =
-    let r = next_requires c.args.chi.now c.args.beginning.now _ _ _ _ c.elements-elements.ensures.value
-    c.elements-elements.ensures.high c.len.ensures.value c.if-len-elements.false c.requires.few
-    c.loop-element.auto.element c.loop-element-test.true c.if-not-has.true c.has.ensures.1 in
-    let tied = c.requires.tied in
-    (omega (arith, c.decreases, r.0), (c.requires.begun, (r.0, (r.1, (tied, (r.2, (r.3, c.requires.table)))))))
+    lesser_behind-lesser_with-requires t (goal.at.lesser_behind-lesser_with-requires-then-not-has t c).Then-not-has
 
 pub lesser_behind-loop-element-preserved : goal.lesser_behind-loop-element-preserved
 lesser_behind-loop-element-preserved t c = λ e i lt off.
@@ -65,12 +62,11 @@ lesser_with-compared-requires t c =
 
 pub lesser_with-lesser_behind-requires : goal.lesser_with-lesser_behind-requires
 lesser_with-lesser_behind-requires t c =
-    let m = c.args.chi.now in
     let u = c.followed_by-longer.result in
-    let more = longer m c.args.beginning.now u c.args.a c.followed_by-longer.ensures in
+    let more = longer c.args.chi.now c.args.beginning.now u c.args.a c.followed_by-longer.ensures in
     let r = next t (goal.at.lesser_with-lesser_behind-requires t c).After-followed_by-longer in
-    let tied = same_from_order (first_image_signs m u) (first_signs m (length u)) (sym c.in-Equal.ensures) in
-    (omega (arith, c.decreases, more, c.requires.few), (r.begun, (r.few, (tied, c.requires.table))))
+    let e = sym c.in-Equal.ensures in
+    (omega (arith, c.decreases, more, c.requires.few), (r.begun, (r.few, (same_from_order _ _ e, c.requires.table))))
 
 pub lesser_with-returns-in-Less-clause-before : goal.lesser_with-returns-in-Less-clause-before
 lesser_with-returns-in-Less-clause-before t c =

@@ -2,7 +2,7 @@ use Rattle.std.proofs.Common.{◌+◌, ◌≤◌, ◌∙◌, ◌/◌, ◌%◌, r
 use Rattle.std.proofs.lemmas.Bool.{false≢true}
 use Rattle.om_laws.specs.Sorting.{IsElement}
 use Rattle.om_signs.specs.declared.limits.TheConstants.{MAX_ELEMENTS}
-use Rattle.om_least.proofs.Tables.{IsFilledTo, filled_with, filled_past}
+use Rattle.om_least.proofs.Tables.{IsFilledTo, filled_none, filled_with, filled_past}
 use Rattle.om_least.proofs.values.values_of.Goals as goal
 use Rattle.om_least.proofs.values.values_of.Goals.{then-are_elements, else-are_elements}
 
@@ -24,3 +24,8 @@ loop-place-preserved c =
           (subst (λ j. IsElement j (k / 21 / 21) × IsElement j (k / 21 % 21) × IsElement j (k % 21)) (sym n) h)))
           c.loop-place.invariant)
     ]
+
+pub loop-place-init : goal.loop-place-init
+loop-place-init c =
+    let few = subst (λ j. j ≤ MAX_ELEMENTS) c.elements-n.ensures.value c.elements-n.ensures.high in
+    filled_none c.args.chi.now few _ refl

@@ -1,26 +1,31 @@
-use Rattle.std.proofs.Common.{◌≡◌, ◌-◌, ◌∙◌, sym, subst, length, get_or, bit_and}
+use Rattle.std.proofs.Common.{ℕ, List, ◌≡◌, ◌-◌, ◌<◌, ◌≤◌, ◌∙◌, sym, subst, length, get_or, bit_and}
 use Rattle.om_localize.specs.declared.circles.TheConstants.{MAX_OLD}
+use Rattle.om_localize.specs.declared.nodes.Node.{Node}
 use Rattle.om_signs.specs.Sign.{opposite}
-use Rattle.om_localize.specs.Masks.{mask_place, IsNode, IsOpenEverywhere}
+use Rattle.om_localize.specs.Masks.{mask_place, IsNode, IsOpenNode, IsOpenEverywhere}
 use Rattle.om_localize.proofs.NarrowedForms.{written}
 use Rattle.om_localize.proofs.NodeLaws.{put_back_same}
 use Rattle.om_localize.proofs.OpenLaws.{closed_first, closed_second, still_open}
 use Rattle.om_localize.proofs.PairLaws.{bounds_within}
 use Rattle.om_localize.proofs.nodes.enter.Goals as goal
 
-pub cut-first-requires : goal.cut-first-requires
-cut-first-requires c =
-    let node = c.args.node.now in
-    let pair = bounds_within c.args.n (length node.signs) node.a node.b MAX_OLD c.requires.inner
-    c.requires.node.forms.pair c.requires.high in
-    record {
-      whole = c.requires.whole;
-      circles = c.requires.node.forms.forms.whole;
-      e_low = pair.first_low;
-      e_high = pair.first_high;
-      f_low = pair.second_low;
-      f_high = pair.second_high;
-    }
+-- the second element of the next pair has a circle
+has_circle : (n : ℕ) (masks forms : List ℕ) (node : Node) → IsOpenNode n masks node forms → node.a < n → n ≤ MAX_OLD
+    → node.b ≤ MAX_OLD
+has_circle n masks forms node h l m =
+    (bounds_within n (length node.signs) node.a node.b MAX_OLD l h.forms.pair m).second_high
+
+pub cut-first-requires-clause-f_high : goal.cut-first-requires-clause-f_high
+cut-first-requires-clause-f_high c = has_circle _ _ _ c.args.node.now c.requires.node c.requires.inner c.requires.high
+
+pub cut-second-requires-clause-e_high : goal.cut-second-requires-clause-e_high
+cut-second-requires-clause-e_high c = has_circle _ _ _ c.args.node.now c.requires.node c.requires.inner c.requires.high
+
+pub forms_at-requires-2-clause-high : goal.forms_at-requires-2-clause-high
+forms_at-requires-2-clause-high c = has_circle _ _ _ c.args.node.now c.requires.node c.requires.inner c.requires.high
+
+pub put-requires-clause-high : goal.put-requires-clause-high
+put-requires-clause-high c = has_circle _ _ _ c.args.node.now c.requires.node c.requires.inner c.requires.high
 
 pub returns-then-first-eq0-clause-closed : goal.returns-then-first-eq0-clause-closed
 returns-then-first-eq0-clause-closed c = λ _.

@@ -1,7 +1,7 @@
-use Rattle.std.proofs.Common.{ℕ, ◌≡◌, ◌≤◌, ◌+◌, ◌-◌, List, length, arith}
-use Rattle.std.specs.Prelude.{min}
+use Rattle.std.proofs.Common.{◌+◌, arith}
 use Rattle.std.proofs.lemmas.List.{length-take}
 use Rattle.om_port.proofs.Known.{Consumes-then, another_read, taken_kept, taken_none, taken_exactly, taken_at_most}
+use Rattle.om_port.proofs.PlannedReads.{within}
 use Rattle.om_port.proofs.whole.read_all.Goals as goal
 
 pub returns-in-Err-clause-few : goal.returns-in-Err-clause-few
@@ -34,12 +34,6 @@ returns-then-count-room-clause-long g c = λ _.
     taken_exactly _ _ _ _ _ c.in-Ok.count (c.args.limit + 1) c.loop-bytes.invariant.taken c.in-Ok.ensures.bytes.0
     c.in-Ok.ensures.bound.0
     (omega (arith, c.loop-bytes.bytes.ok, c.len.ensures, c.if-count-room.true, c.loop-bytes.invariant.few))
-
--- the bytes of a read that leaves room for one more are within the limit
-within : (items : List ℕ) (limit len piece count : ℕ) → length items ≤ limit → length items ≡ len
-    → piece ≡ min (limit + 1 - len) 4096 → count ≤ piece → (count ≡ limit + 1 - len → ⊥)
-    → length items + count ≤ limit
-within items limit len piece count few l p most more = omega (arith, few, l, p, most, more)
 
 pub returns-then-is_err-clause-few : goal.returns-then-is_err-clause-few
 returns-then-is_err-clause-few g c = λ _.
@@ -76,3 +70,10 @@ returns-then-count-room-clause-again g c = λ _. c.in-Ok.ensures.again (omega (a
 
 pub returns-then-is_err-clause-again : goal.returns-then-is_err-clause-again
 returns-then-is_err-clause-again g c = λ _. c.in-Ok.ensures.again (omega (arith, c.in-Ok.count-test.1))
+
+pub read-requires-clause-room : goal.read-requires-clause-room
+read-requires-clause-room g c = omega (arith, length-take c.min-piece.result c.loop-bytes.buf)
+
+pub returns-in-Ok-eq0-clause-end : goal.returns-in-Ok-eq0-clause-end
+returns-in-Ok-eq0-clause-end g c = c.in-Ok-eq0.ensures.bytes.1 c.in-Ok-eq0.field-0-test
+    (omega (arith, length-take c.min-piece.result c.loop-bytes.buf, c.read.auto.buf))

@@ -1,4 +1,5 @@
-use Rattle.std.proofs.Common.{◌≡◌, ap, ◌∙◌, arith}
+use Rattle.std.proofs.Common.{◌≡◌, ◌-◌, length, ap, ◌∙◌, arith, rules}
+use Rattle.std.specs.Prelude.{min}
 use Rattle.om_port.specs.Causes.{raised}
 use Rattle.om_port.proofs.mem_sink.MemSinkSink.write.Goals as goal
 
@@ -26,3 +27,17 @@ returns-clause-piece c = ap (λ f. f.piece) c.self.view_is
 
 pub returns-clause-room : goal.returns-clause-room
 returns-clause-room c = ap (λ f. f.room) c.self.view_is
+
+pub returns-clause-cause : goal.returns-clause-cause
+returns-clause-cause c = record { later = omega (arith, returns-clause-faults c); failed = search rules }
+
+pub returns-clause-count : goal.returns-clause-count
+returns-clause-count c =
+    let free : c.self.inside.room - c.len.result ≡ c.self.inside.room - length c.self.inside.bytes.items =
+    omega (arith, c.len.ensures, c.self.inside.bytes.ok) in
+    c.min-count.ensures
+    ∙ ap (λ k. min k c.self.inside.piece) (c.min.ensures ∙ ap (min (length c.args.bytes.now)) free)
+    ∙ ap (λ h. min (min (length c.args.bytes.now) (h.room - length h.bytes)) h.piece) c.self.view_is
+
+pub returns-then-told-clause-bytes : goal.returns-then-told-clause-bytes
+returns-then-told-clause-bytes c = ap (λ h. h.bytes) c.self.view_is

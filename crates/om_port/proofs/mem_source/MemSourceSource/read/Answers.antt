@@ -1,7 +1,8 @@
-use Rattle.std.proofs.Common.{◌≡◌, ap, ◌∙◌, take, drop, length, ◌-◌, arith}
+use Rattle.std.proofs.Common.{◌≡◌, ap, ◌∙◌, take, drop, length, ◌-◌, arith, rules}
 use Rattle.std.proofs.lemmas.List.{take_rest}
 use Rattle.om_port.specs.Causes.{raised}
 use Rattle.om_port.proofs.Known.{read_step}
+use Rattle.om_port.proofs.PlannedReads.{told_of, given_bound, given_count}
 use Rattle.om_port.proofs.mem_source.MemSourceSource.read.Goals as goal
 
 pub returns-then-begin-clause-cause : goal.returns-then-begin-clause-cause
@@ -36,3 +37,32 @@ returns-clause-failing c = ap (λ p. p.failing) c.begin.ensures.plan ∙ ap (λ 
 
 pub returns-clause-piece : goal.returns-clause-piece
 returns-clause-piece c = ap (λ f. f.piece) c.self.view_is
+
+pub returns-then-begin-clause-bytes : goal.returns-then-begin-clause-bytes
+returns-then-begin-clause-bytes c = ap (λ f. f.bytes) c.self.view_is
+
+pub returns-then-begin-clause-told : goal.returns-then-begin-clause-told
+returns-then-begin-clause-told c =
+    told_of _ _ _ _ _ _ c.begin.ensures.told c.if-begin.true (ap (λ f. f.failing) c.self.view_is)
+    (ap (λ f. f.calls) c.self.view_is)
+
+pub returns-clause-told : goal.returns-clause-told
+returns-clause-told c =
+    told_of _ _ _ _ _ _ c.begin.ensures.told c.if-begin.false (ap (λ f. f.failing) c.self.view_is)
+    (ap (λ f. f.calls) c.self.view_is)
+
+pub returns-clause-bound : goal.returns-clause-bound
+returns-clause-bound c =
+    let m = c.min.ensures in
+    let m2 = c.min-count.ensures in
+    given_bound c.copy_from_slice.new.self c.args.buf.now c.min-count.result (omega arith) c.copy_from_slice.ensures.len
+
+pub returns-clause-count : goal.returns-clause-count
+returns-clause-count c =
+    given_count c.copy_from_slice.new.self c.args.buf.now _ _ c.min-count.result c.min.result _ _
+    (ap (λ xs. take (length xs - c.self.inside.at) (drop c.self.inside.at xs)) c.as_slice.ensures.value
+    ∙ take_rest c.self.inside.bytes.items c.self.inside.at ∙ ap (λ f. f.bytes) c.self.view_is)
+    c.min.ensures c.min-count.ensures (ap (λ f. f.piece) c.self.view_is) c.copy_from_slice.ensures.len
+
+pub returns-clause-cause : goal.returns-clause-cause
+returns-clause-cause c = record { later = omega (arith, returns-clause-faults c); failed = search rules }
