@@ -6,8 +6,9 @@ A name is looked up in the sources of the repository; a file from the top, from 
 alone. Then it asks for the size of README, for the form and the size of the entries of docs/DECISIONS.md, and whether
 what is made stands as it is made now: the crates and layers of docs/ARCHITECTURE.md and the counts of CONTRIBUTING.md
 (layers.py), the picture (picture.py), and docs/INDEX.md (index.py). Last it asks whether each function that no crate
-shows is called (uncalled.py), and whether each must-fail edit can be applied (bench/edits.py). The last line is
-'pages: N passed, M failed', and the exit code is 1 if one failed.
+shows is called (uncalled.py), whether each must-fail edit can be applied, and whether those beside the gate were refused
+on the sources that stand here (bench/edits.py). The last line is 'pages: N passed, M failed', and the exit code is 1 if
+one failed.
 """
 import os
 import re
@@ -137,11 +138,13 @@ def main():
     failed += len(left)
     for path, name in left:
         print("%s: nothing calls `%s`" % (path, name))
-    stale = list(edits.stale(edits.every()))
-    passed += not stale
-    failed += len(stale)
+    stale, untried = list(edits.stale(edits.every())), list(edits.untried())
+    passed += (not stale) + (not untried)
+    failed += len(stale) + len(untried)
     for path, old in stale:
         print("%s replaces what isn't there once: %s" % (path, old))
+    for crate in untried:
+        print("%s has changed since its further edits were refused: run bench/edits.py %s" % (crate, crate))
     print("pages: %d passed, %d failed" % (passed, failed))
     return 1 if failed or not passed else 0
 
