@@ -12,12 +12,15 @@ import hashlib
 import itertools
 import os
 import random
+import shlex
 import shutil
 import signal
 import subprocess
 import sys
 import tempfile
 import time
+
+import shared
 
 HERE = os.path.dirname(os.path.abspath(__file__))
 TALLY = {True: 0, False: 0}
@@ -29,6 +32,14 @@ BROKEN = b"om 1\nchirotope 3 5\n+-++++++++\nend\n"
 CLIMBED = "24066a91ec21955c"  # the SHA-256 of the claims of climb for 30 documents begins so
 RUN = b"# all 9: 1 classes, SHA-256 1, by realize\n000000 1 1 0 0 0 0 1 1 0123456789abcdef\n"
 CUT = FOUR + b"om 1\nchirotope 3 4\n++++\n"
+# plays om_each: where the words are these it says so and waits, and else it is the real one
+WAITS = """#!/usr/bin/env bash
+if [[ %s ]]; then
+  echo > %s
+  exec sleep 600
+fi
+exec %s "$@"
+"""
 # plays sbatch of Slurm: it does the tasks of an array job one after the other, the last one first
 SBATCH = """#!/usr/bin/env bash
 while [[ $1 == --* ]]; do
@@ -444,18 +455,25 @@ def other_options(folder):
 
 def stopped_by_hand(folder):
     """Control-C, which goes to all programs of the terminal, ends it with 130 in each of its stages, and the same
-    command goes on."""
+    command goes on. What plays om_each waits there until the signal comes."""
     words = [os.path.join(HERE, "classify"), folder, "uniform", "8"]
+    waits, reached = folder + ".waits", folder + ".reached"
     # a check that runs in the background is started with SIGINT ignored, and a shell can't trap a signal that was
     signal.signal(signal.SIGINT, signal.default_int_handler)
-    for stage in ("uniform-7.grown/*", "uniform-8.blocks/heading"):
-        process = subprocess.Popen(words, stdout=subprocess.PIPE, stderr=subprocess.PIPE, start_new_session=True)
+    for stage in ('$1 = extend', '$1 = decide && /dev/stdin -ef /dev/null', '$1 = decide && ! /dev/stdin -ef /dev/null',
+                  '$1 = check'):
+        with open(waits, "w") as file:
+            file.write(WAITS % (stage, shlex.quote(reached), shlex.quote(shared.om_each())))
+        os.chmod(waits, 0o755)
+        process = subprocess.Popen(words, stdout=subprocess.PIPE, stderr=subprocess.PIPE, start_new_session=True,
+                                   env=dict(os.environ, OM_EACH=waits))
         end = time.monotonic() + 120
-        while not glob.glob(os.path.join(folder, stage)) and process.poll() is None and time.monotonic() < end:
+        while not os.path.exists(reached) and process.poll() is None and time.monotonic() < end:
             time.sleep(0.01)
         os.killpg(process.pid, signal.SIGINT)
         process.communicate()
-        compare("classify, stopped at %s" % stage, 130, process.returncode)
+        compare("classify, stopped where %s" % stage, (130, True), (process.returncode, os.path.exists(reached)))
+        os.remove(reached)
     done = run(["classify", folder, "uniform", "8"])
     compare("classify behind control-C", (0, True), (done.returncode, b"135 classes, 135 realizable" in done.stdout))
     done = run(["classify", folder, "uniform", "8"], environment={"EXACT": "yes"})
