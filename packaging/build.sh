@@ -22,7 +22,7 @@ rooms=$(awk '/^MemAvailable:/ { print int($2 / 4000000) }' /proc/meminfo 2>/dev/
 jobs=$((${rooms:-1} < processors ? ${rooms:-1} : processors))
 jobs=${RT_JOBS:-$((jobs < 1 ? 1 : jobs))}
 room=$(mktemp -d) || exit 1
-log=$room/log tree=$room/tree running=
+log=$room/log tree=$room/tree running='' watching=''
 # a source that is changed from now on is newer than what is built
 start=$room/start
 touch "$log" "$start"
@@ -32,7 +32,7 @@ trap 'rm -rf "$room"' EXIT
 stop() {
   trap - EXIT
   trap '' INT TERM HUP
-  [ -z "$running" ] || { kill -KILL "$running"; wait "$running"; } 2>/dev/null
+  [ -z "$running" ] || { kill -KILL "$running" "$watching"; wait "$running" "$watching"; } 2>/dev/null
   rm -rf "$room" </dev/null >/dev/null 2>&1 &
   exit 130
 }
@@ -112,26 +112,37 @@ proved() {
     END { print (n + 0) " of " all " crates proved" last }' "$log"
 }
 
-# attend WHAT FOLDER WORDS..: runs rt in a folder, and says how far it is.
+# report WHAT FOLDER: says how far rt is.
+report() {
+  [ -t 2 ] || return 0
+  case $1 in
+    ci | all) show "$(proved "$1")" "$(at_work "${2%/crates/*}")" ;;
+    *) show "$1" ;;
+  esac
+}
+
+# watch WHAT FOLDER: says so again and again, as long as rt runs.
+watch() {
+  while kill -0 "$running" 2>/dev/null; do
+    report "$1" "$2"
+    sleep 0.3
+  done
+}
+
+# attend WHAT FOLDER WORDS..: runs rt in a folder, and says how far it is. This shell only waits, since bash 5.2 forgets
+# some of the signals that come while something in $( ) runs; what is said comes from another one.
 attend() {
-  local what=$1 folder=$2
+  local what=$1 folder=$2 status
   shift 2
   (cd "$folder" && exec rt "$@") >"$log" 2>&1 </dev/null &
   running=$!
-  while kill -0 "$running" 2>/dev/null; do
-    if [ -t 2 ]; then
-      case $what in
-        ci | all) show "$(proved "$what")" "$(at_work "${folder%/crates/*}")" ;;
-        *) show "$what" ;;
-      esac
-    fi
-    # a signal is answered at once, and not when a sleep is over
-    sleep 0.3 &
-    wait $!
-  done
+  [ ! -t 2 ] || watch "$what" "$folder" &
+  watching=$!
   wait "$running"
-  local status=$?
-  running=
+  status=$?
+  { kill -KILL "$watching"; wait "$watching"; } 2>/dev/null
+  running=''
+  report "$what" "$folder"
   return $status
 }
 
